@@ -4,10 +4,11 @@ use Rattle.std.specs.Prelude.{ℕ, ◌≡◌, ◌+◌, ◌⊎◌, IsTrue, None, 
 use Rattle.qc_names.specs.Name as name
 use Rattle.qc_check.specs.declared.rule.Rule.{Rule}
 use Rattle.qc_check.specs.declared.rule.Rule.TheVariants as rule
+use Rattle.qc_check.specs.Parts.{WasAskedFor, ask_for}
 use Rattle.qc_event.specs.Aborts.{Licensed}
 use Rattle.qc_event.specs.Base.{Setting}
 use Rattle.qc_event.specs.Dead.{dead}
-use Rattle.qc_event.specs.History.{Past, Name, asked, granted}
+use Rattle.qc_event.specs.History.{Past, Name, granted}
 use Rattle.qc_event.specs.Manager.{first_for, is_complete, waiting}
 use Rattle.qc_event.specs.Seen.{holder}
 use Rattle.qc_event.specs.Seats.{ledger_seat, is_client}
@@ -38,7 +39,7 @@ AskBreaks past ask _ = ⊥
 
 -- the copy was asked for what it grants
 abbrev pub WasAsked : Past → ℕ → Grant → Type 0
-WasAsked past copy g = MatchOption (asked past g.access) ⊥ (λ a. a.ask ≡ record { access = g.access; copy = copy; rec = g.rec; op = g.op })
+WasAsked past copy g = WasAskedFor past (ask_for copy g)
 
 -- a live access finds no grant in its way
 abbrev pub IsFree : Past → ℕ → Grant → Type 0

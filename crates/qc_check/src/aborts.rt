@@ -1,27 +1,27 @@
 //! For which causes managers and accesses may be aborted. None of these calls takes memory.
-ghost use Rattle.std.specs.Prelude.{◌≡◌, ◌↔◌, ◌<◌, IsTrue, map, reverse};
+ghost use Rattle.std.specs.Prelude.{◌≡◌, ◌↔◌, ◌<◌, IsTrue, map};
 ghost use Rattle.std.specs.List.{list_all};
 ghost use Rattle.qc_event.specs.Aborts as words;
 ghost use Rattle.qc_event.specs.Manager as manager;
 ghost use Rattle.qc_event.specs.Users as users;
 
 use crate::users::is_user_cause;
-use qc_event::{Ask, Cause, Entry, Kind, Lack, Name, Phase, Why, is_client};
+use qc_event::{Ask, Cause, Kind, Lack, Name, Phase, Why, is_client};
 use qc_scan::{
-    Begun, Setting, Stage, blocked_by, first_blocked, front, gone, has_failed, has_replied,
-    is_at_last_number, is_open, is_orphan_of, is_ready, is_started_under, is_this, missing_at,
-    refused, replied, same_copies, stage_for,
+    Begun, Looks, Setting, Stage, blocked_by, first_blocked, front, has_failed, has_replied,
+    is_at_last_number, is_open, is_orphan_of, is_started_under, is_this, missing_at, replied,
+    same_copies, stage_for,
 };
 
-fn is_blocked_there(h: &[Entry], copy: u8, holder: &Name, ask: &Ask) -> bool
-    ensures { IsTrue result ↔ words.IsBlockedThere (reverse h.now) copy holder.now ask.now }
+fn is_blocked_there<H: Looks>(h: &H, copy: u8, holder: &Name, ask: &Ask) -> bool
+    ensures { IsTrue result ↔ words.IsBlockedThere (H.past h.now) copy holder.now ask.now }
 {
     ask.copy == copy && is_this(blocked_by(h, &ask.access), holder)
 }
 
-fn failed_by_conflict(h: &[Entry], m: &Name, copy: u8, holder: &Name, stage: &Stage) -> bool
+fn failed_by_conflict<H: Looks>(h: &H, m: &Name, copy: u8, holder: &Name, stage: &Stage) -> bool
     ensures { IsTrue result
-        ↔ words.FailedByConflict (reverse h.now) m.now copy holder.now stage.now }
+        ↔ words.FailedByConflict (H.past h.now) m.now copy holder.now stage.now }
 {
     if !has_failed(h, m, stage) {
         return false;
@@ -32,18 +32,18 @@ fn failed_by_conflict(h: &[Entry], m: &Name, copy: u8, holder: &Name, stage: &St
     }
 }
 
-fn is_known(h: &[Entry], m: &Name, stage: &Stage, copy: u8) -> bool
+fn is_known<H: Looks>(h: &H, m: &Name, stage: &Stage, copy: u8) -> bool
     requires { copy < 16 }
-    ensures { result ≡ words.is_known (reverse h.now) m.now stage.now copy }
+    ensures { result ≡ words.is_known (H.past h.now) m.now stage.now copy }
 {
     stage.config().votes(copy) == 0
         || has_replied(h, m, stage.phase(), copy)
         || missing_at(h, m, stage.phase(), copy).is_some()
 }
 
-fn each_is_known(h: &[Entry], m: &Name, stage: &Stage) -> bool
+fn each_is_known<H: Looks>(h: &H, m: &Name, stage: &Stage) -> bool
     ensures { result
-        ≡ list_all (words.is_known (reverse h.now) m.now stage.now) manager.all_copies }
+        ≡ list_all (words.is_known (H.past h.now) m.now stage.now) manager.all_copies }
 {
     for copy in 0..16 {
         if !is_known(h, m, stage, copy) {
@@ -53,15 +53,15 @@ fn each_is_known(h: &[Entry], m: &Name, stage: &Stage) -> bool
     true
 }
 
-fn is_why_at(h: &[Entry], m: &Name, phase: Phase, copy: u8, why: Option<Why>) -> bool
-    ensures { IsTrue result ↔ (why ≡ manager.missing_at (reverse h.now) m.now phase copy) }
+fn is_why_at<H: Looks>(h: &H, m: &Name, phase: Phase, copy: u8, why: Option<Why>) -> bool
+    ensures { IsTrue result ↔ (why ≡ manager.missing_at (H.past h.now) m.now phase copy) }
 {
     why == missing_at(h, m, phase, copy)
 }
 
-fn tells_missing(h: &[Entry], m: &Name, phase: Phase, missing: &[Option<Why>; 16]) -> bool
+fn tells_missing<H: Looks>(h: &H, m: &Name, phase: Phase, missing: &[Option<Why>; 16]) -> bool
     ensures { IsTrue result
-        ↔ (missing.now ≡ map (manager.missing_at (reverse h.now) m.now phase) manager.all_copies) }
+        ↔ (missing.now ≡ map (manager.missing_at (H.past h.now) m.now phase) manager.all_copies) }
 {
     for copy in 0..16 {
         if !is_why_at(h, m, phase, copy, missing[copy as usize]) {
@@ -71,8 +71,8 @@ fn tells_missing(h: &[Entry], m: &Name, phase: Phase, missing: &[Option<Why>; 16
     true
 }
 
-fn failed_by_lack(h: &[Entry], m: &Name, lack: &Lack, stage: &Stage) -> bool
-    ensures { IsTrue result ↔ words.FailedByLack (reverse h.now) m.now lack.now stage.now }
+fn failed_by_lack<H: Looks>(h: &H, m: &Name, lack: &Lack, stage: &Stage) -> bool
+    ensures { IsTrue result ↔ words.FailedByLack (H.past h.now) m.now lack.now stage.now }
 {
     let phase = stage.phase();
     has_failed(h, m, stage)
@@ -83,16 +83,16 @@ fn failed_by_lack(h: &[Entry], m: &Name, lack: &Lack, stage: &Stage) -> bool
         && tells_missing(h, m, phase, &lack.missing)
 }
 
-fn has_failed_by_conflict(
+fn has_failed_by_conflict<H: Looks>(
     setting: &Setting,
-    h: &[Entry],
+    h: &H,
     m: &Name,
     kind: &Kind,
     copy: u8,
     holder: &Name,
 ) -> bool
-    ensures { IsTrue result ↔ manager.AtStage setting.now (reverse h.now) m.now kind.now
-        (words.FailedByConflict (reverse h.now) m.now copy holder.now) }
+    ensures { IsTrue result ↔ manager.AtStage setting.now (H.past h.now) m.now kind.now
+        (words.FailedByConflict (H.past h.now) m.now copy holder.now) }
 {
     match stage_for(setting, h, m, kind) {
         Some(stage) => failed_by_conflict(h, m, copy, holder, &stage),
@@ -100,9 +100,15 @@ fn has_failed_by_conflict(
     }
 }
 
-fn has_failed_by_lack(setting: &Setting, h: &[Entry], m: &Name, kind: &Kind, lack: &Lack) -> bool
-    ensures { IsTrue result ↔ manager.AtStage setting.now (reverse h.now) m.now kind.now
-        (words.FailedByLack (reverse h.now) m.now lack.now) }
+fn has_failed_by_lack<H: Looks>(
+    setting: &Setting,
+    h: &H,
+    m: &Name,
+    kind: &Kind,
+    lack: &Lack,
+) -> bool
+    ensures { IsTrue result ↔ manager.AtStage setting.now (H.past h.now) m.now kind.now
+        (words.FailedByLack (H.past h.now) m.now lack.now) }
 {
     match stage_for(setting, h, m, kind) {
         Some(stage) => failed_by_lack(h, m, lack, &stage),
@@ -110,9 +116,15 @@ fn has_failed_by_lack(setting: &Setting, h: &[Entry], m: &Name, kind: &Kind, lac
     }
 }
 
-fn is_manager_cause(setting: &Setting, h: &[Entry], m: &Name, kind: &Kind, cause: &Cause) -> bool
+fn is_manager_cause<H: Looks>(
+    setting: &Setting,
+    h: &H,
+    m: &Name,
+    kind: &Kind,
+    cause: &Cause,
+) -> bool
     ensures { IsTrue result
-        ↔ words.ManagerCause setting.now (reverse h.now) m.now kind.now cause.now }
+        ↔ words.ManagerCause setting.now (H.past h.now) m.now kind.now cause.now }
 {
     match cause {
         Cause::Conflict { copy, holder } => {
@@ -125,26 +137,26 @@ fn is_manager_cause(setting: &Setting, h: &[Entry], m: &Name, kind: &Kind, cause
     }
 }
 
-fn is_access_cause(h: &[Entry], n: &Name, cause: &Cause) -> bool
-    ensures { IsTrue result ↔ words.AccessCause (reverse h.now) n.now cause.now }
+fn is_access_cause<H: Looks>(h: &H, n: &Name, cause: &Cause) -> bool
+    ensures { IsTrue result ↔ words.AccessCause (H.past h.now) n.now cause.now }
 {
     match cause {
-        Cause::Missed => gone(h, n).is_some() || refused(h, n).is_some(),
+        Cause::Missed => h.gone(n).is_some() || h.refused(n).is_some(),
         Cause::Orphan(ancestor) => is_orphan_of(h, n, ancestor),
         _ => false,
     }
 }
 
 /// Whether an abort's cause is licensed, by the kind of what is aborted.
-pub fn is_licensed(
+pub fn is_licensed<H: Looks>(
     setting: &Setting,
-    h: &[Entry],
+    h: &H,
     seat: u32,
     n: &Name,
     begun: &Begun,
     cause: &Cause,
 ) -> bool
-    ensures { IsTrue result ↔ words.Licensed setting.now (reverse h.now) seat n.now begun.now
+    ensures { IsTrue result ↔ words.Licensed setting.now (H.past h.now) seat n.now begun.now
         begun.now.kind cause.now }
 {
     match begun.kind() {
@@ -155,20 +167,20 @@ pub fn is_licensed(
 }
 
 /// Whether a started name may be aborted: it is open and no ready top, and the cause is licensed, by its kind.
-pub fn may_abort(
+pub fn may_abort<H: Looks>(
     setting: &Setting,
-    h: &[Entry],
+    h: &H,
     seat: u32,
     n: &Name,
     begun: &Begun,
     cause: &Cause,
 ) -> bool
     ensures { IsTrue result ↔ users.MayAbort
-        (words.Licensed setting.now (reverse h.now) seat n.now begun.now begun.now.kind cause.now)
-        (reverse h.now) seat n.now }
+        (words.Licensed setting.now (H.past h.now) seat n.now begun.now begun.now.kind cause.now)
+        (H.past h.now) seat n.now }
 {
     is_client(seat)
         && is_open(h, n)
-        && !is_ready(h, n)
+        && !h.is_ready(n)
         && is_licensed(setting, h, seat, n, begun, cause)
 }

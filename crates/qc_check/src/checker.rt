@@ -12,7 +12,7 @@ use crate::rule::{Rule, breaks};
 use crate::starts::may_start;
 use crate::users::{may_be_ready, may_mark};
 use qc_event::{Base, Config, Entry, Event, How, Name};
-use qc_scan::{Begun, Setting, start};
+use qc_scan::{Begun, Looks, Scans, Setting};
 use thiserror::Error;
 
 /// Why a history is not legal: the entry at this place, counted from 0, is the first that those before it
@@ -24,9 +24,16 @@ pub struct Illegal {
     pub rule: Rule,
 }
 
-fn may_end_so(setting: &Setting, h: &[Entry], seat: u32, n: &Name, how: &How, begun: &Begun) -> bool
+fn may_end_so<H: Looks>(
+    setting: &Setting,
+    h: &H,
+    seat: u32,
+    n: &Name,
+    how: &How,
+    begun: &Begun,
+) -> bool
     ensures { IsTrue result
-        ↔ words.MayEnd setting.now (reverse h.now) seat n.now how.now begun.now }
+        ↔ words.MayEnd setting.now (H.past h.now) seat n.now how.now begun.now }
 {
     match how {
         How::Commit(given) => may_commit(setting, h, seat, n, begun, given),
@@ -34,18 +41,22 @@ fn may_end_so(setting: &Setting, h: &[Entry], seat: u32, n: &Name, how: &How, be
     }
 }
 
-fn may_end(setting: &Setting, h: &[Entry], seat: u32, n: &Name, how: &How) -> bool
-    ensures { IsTrue result ↔ standing.Started (reverse h.now) n.now
-        (words.MayEnd setting.now (reverse h.now) seat n.now how.now) }
+fn may_end<H: Looks>(setting: &Setting, h: &H, seat: u32, n: &Name, how: &How) -> bool
+    ensures { IsTrue result ↔ standing.Started (H.past h.now) n.now
+        (words.MayEnd setting.now (H.past h.now) seat n.now how.now) }
 {
-    match start(h, n) {
+    match h.start(n) {
         Some(begun) => may_end_so(setting, h, seat, n, how, &begun),
         None => false,
     }
 }
 
-fn is_allowed(setting: &Setting, h: &[Entry], e: &Entry) -> bool
-    ensures { IsTrue result ↔ words.Allowed setting.now (reverse h.now) e.now }
+/// Whether an entry may come next, by whatever looks at the history.
+pub fn is_allowed<H: Looks>(setting: &Setting, h: &mut H, e: &Entry) -> bool
+    requires setting { H.setting h.old ≡ setting.now }
+    ensures allowed { IsTrue result ↔ words.Allowed setting.now (H.past h.old) e.now }
+    ensures past { H.past h.new ≡ H.past h.old }
+    ensures setting { H.setting h.new ≡ H.setting h.old }
 {
     let seat = e.seat;
     match &e.event {
@@ -78,8 +89,12 @@ pub fn check_by_scans(base: &Base, firsts: &[Config], h: &[Entry]) -> Result<(),
 {
     let setting = Setting::new(base, firsts);
     for (place, e) in h.iter().enumerate() {
-        if !is_allowed(&setting, &h[..place], e) {
-            let rule = breaks(&setting, &h[..place], e);
+        let mut before = Scans {
+            setting: &setting,
+            entries: &h[..place],
+        };
+        if !is_allowed(&setting, &mut before, e) {
+            let rule = breaks(&setting, &mut before, e);
             return Err(Illegal { place, rule });
         }
     }

@@ -1,5 +1,5 @@
 //! Who may commit, with which answer. None of these calls takes memory.
-ghost use Rattle.std.specs.Prelude.{◌≡◌, ◌↔◌, IsTrue, reverse, MatchOption};
+ghost use Rattle.std.specs.Prelude.{◌≡◌, ◌↔◌, IsTrue, MatchOption};
 ghost use Rattle.qc_event.specs.declared.event.Answer.TheVariants as answer;
 ghost use Rattle.qc_event.specs.Commits as words;
 ghost use Rattle.qc_event.specs.History as history;
@@ -7,31 +7,31 @@ ghost use Rattle.qc_event.specs.Manager as manager;
 ghost use Rattle.qc_check.specs.Parts as parts;
 
 use crate::users::may_commit_user_or_top;
-use qc_event::{Answer, Config, Entry, Kind, Name, is_client};
+use qc_event::{Answer, Config, Kind, Name, is_client};
 use qc_scan::{
-    Begun, Setting, granted, greatest, is_asked_under, is_done, is_going, newest, open_child,
-    record_of, same_answer,
+    Begun, Looks, Setting, greatest, is_asked_under, is_done, is_going, newest, record_of,
+    same_answer,
 };
 
-fn is_granted(h: &[Entry], n: &Name, given: &Answer) -> bool
-    ensures { IsTrue result ↔ MatchOption (history.granted (reverse h.now) n.now) ⊥
+fn is_granted<H: Looks>(h: &H, n: &Name, given: &Answer) -> bool
+    ensures { IsTrue result ↔ MatchOption (history.granted (H.past h.now) n.now) ⊥
         (λ g. given.now ≡ answer.Reply g.grant.tuple) }
 {
-    match granted(h, n) {
+    match h.granted(n) {
         Some(granted) => same_answer(given, &Answer::Reply(granted.grant().tuple)),
         None => false,
     }
 }
 
-fn may_commit_access(h: &[Entry], seat: u32, n: &Name, given: &Answer) -> bool
-    ensures { IsTrue result ↔ words.MayCommitAccess (reverse h.now) seat n.now given.now }
+fn may_commit_access<H: Looks>(h: &H, seat: u32, n: &Name, given: &Answer) -> bool
+    ensures { IsTrue result ↔ words.MayCommitAccess (H.past h.now) seat n.now given.now }
 {
     is_client(seat) && is_asked_under(h, seat, n) && is_going(h, n) && is_granted(h, n, given)
 }
 
-fn is_manager_answer(h: &[Entry], first: &Config, m: &Name, kind: &Kind, given: &Answer) -> bool
+fn is_manager_answer<H: Looks>(h: &H, first: &Config, m: &Name, kind: &Kind, given: &Answer) -> bool
     ensures { IsTrue result
-        ↔ (given.now ≡ words.manager_answer (reverse h.now) first.now m.now kind.now) }
+        ↔ (given.now ≡ words.manager_answer (H.past h.now) first.now m.now kind.now) }
 {
     match kind {
         Kind::Read { .. } => match given {
@@ -46,29 +46,29 @@ fn is_manager_answer(h: &[Entry], first: &Config, m: &Name, kind: &Kind, given: 
     }
 }
 
-fn is_free_to_commit(h: &[Entry], seat: u32, n: &Name, begun: &Begun) -> bool
-    ensures { IsTrue result ↔ parts.IsFreeToCommit (reverse h.now) seat n.now begun.now }
+fn is_free_to_commit<H: Looks>(h: &H, seat: u32, n: &Name, begun: &Begun) -> bool
+    ensures { IsTrue result ↔ parts.IsFreeToCommit (H.past h.now) seat n.now begun.now }
 {
-    is_client(seat) && seat == begun.seat() && is_going(h, n) && open_child(h, n).is_none()
+    is_client(seat) && seat == begun.seat() && is_going(h, n) && h.children_ended(n)
 }
 
-fn gives_answer(setting: &Setting, h: &[Entry], m: &Name, kind: &Kind, given: &Answer) -> bool
-    ensures { IsTrue result ↔ (given.now ≡ words.manager_answer (reverse h.now)
+fn gives_answer<H: Looks>(setting: &Setting, h: &H, m: &Name, kind: &Kind, given: &Answer) -> bool
+    ensures { IsTrue result ↔ (given.now ≡ words.manager_answer (H.past h.now)
         (manager.first_for setting.now kind.now) m.now kind.now) }
 {
     is_manager_answer(h, &setting.first(record_of(kind)), m, kind, given)
 }
 
-fn may_commit_manager(
+fn may_commit_manager<H: Looks>(
     setting: &Setting,
-    h: &[Entry],
+    h: &H,
     seat: u32,
     n: &Name,
     begun: &Begun,
     given: &Answer,
 ) -> bool
     ensures { IsTrue result
-        ↔ words.MayCommitManager setting.now (reverse h.now) seat n.now begun.now given.now }
+        ↔ words.MayCommitManager setting.now (H.past h.now) seat n.now begun.now given.now }
 {
     if !is_free_to_commit(h, seat, n, begun) {
         return false;
@@ -81,15 +81,15 @@ fn may_commit_manager(
 }
 
 /// Whether a started name may commit, by its kind.
-pub fn may_commit(
+pub fn may_commit<H: Looks>(
     setting: &Setting,
-    h: &[Entry],
+    h: &H,
     seat: u32,
     n: &Name,
     begun: &Begun,
     given: &Answer,
 ) -> bool
-    ensures { IsTrue result ↔ words.MayCommit setting.now (reverse h.now) seat n.now begun.now
+    ensures { IsTrue result ↔ words.MayCommit setting.now (H.past h.now) seat n.now begun.now
         given.now begun.now.kind }
 {
     match begun.kind() {

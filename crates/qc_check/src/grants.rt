@@ -1,13 +1,14 @@
 //! What a copy may grant, and how it may refuse. None of these calls takes memory.
-ghost use Rattle.std.specs.Prelude.{◌≡◌, ◌↔◌, IsTrue, reverse, MatchOption, IfNone};
+ghost use Rattle.std.specs.Prelude.{◌≡◌, ◌↔◌, IsTrue, None, IfNone};
+ghost use Rattle.qc_config.specs.Tuple.{after};
 ghost use Rattle.qc_event.specs.Dead as dead_words;
 ghost use Rattle.qc_event.specs.Grants as words;
-ghost use Rattle.qc_event.specs.History as history;
 ghost use Rattle.qc_event.specs.Seats as seats;
 ghost use Rattle.qc_event.specs.Seen as seen_words;
+ghost use Rattle.qc_check.specs.Parts as parts;
 
-use qc_event::{Ask, Entry, Event, Grant, Name, Op, Refusal, Tuple, copy_seat, dead, holder};
-use qc_scan::{Setting, asked, granted, is_this, same_ask, same_config, same_tuple};
+use qc_event::{Ask, Grant, Name, Op, Refusal, Tuple, copy_seat};
+use qc_scan::{Looks, Setting, is_this, same_ask, same_config, same_tuple};
 
 /// Whether a seat is a copy's.
 pub fn is_seat_of(seat: u32, copy: u8) -> bool
@@ -28,97 +29,132 @@ fn sets(op: &Op, tuple: &Tuple) -> bool
     }
 }
 
-/// What a copy holds of a record: its start tuple, changed by each put granted there that is not dead, in
-/// order.
-fn held(setting: &Setting, h: &[Entry], copy: u8, rec: u8) -> Tuple
-    ensures { result ≡ seen_words.seen setting.now.base (reverse h.now) copy rec }
+fn ask_for(copy: u8, grant: &Grant) -> Ask
+    ensures { result ≡ parts.ask_for copy grant.now }
 {
-    let mut tuple = setting.tuple(copy, rec);
-    for e in h {
-        if let Event::Granted { copy: c, grant } = &e.event {
-            if *c == copy && grant.rec == rec && dead(h, &grant.access).is_none() {
-                tuple = tuple.after(&grant.op);
-            }
-        }
+    Ask {
+        access: grant.access,
+        copy,
+        rec: grant.rec,
+        op: grant.op,
     }
-    tuple
 }
 
-fn is_served(setting: &Setting, h: &[Entry], copy: u8, grant: &Grant) -> bool
-    ensures { IsTrue result ↔ words.IsServed setting.now (reverse h.now) copy grant.now }
+/// Whether a copy was asked for what it grants.
+pub fn was_asked<H: Looks>(h: &H, copy: u8, grant: &Grant) -> bool
+    ensures { IsTrue result ↔ parts.WasAskedFor (H.past h.now) (parts.ask_for copy grant.now) }
 {
-    holder(h, copy, grant.rec, &grant.op, &grant.access).is_none()
-        && same_tuple(
-            &grant.tuple,
-            &held(setting, h, copy, grant.rec).after(&grant.op),
-        )
+    match h.asked(&grant.access) {
+        Some(asked) => same_ask(&asked.ask(), &ask_for(copy, grant)),
+        None => false,
+    }
 }
 
-fn is_served_or_dead(setting: &Setting, h: &[Entry], copy: u8, grant: &Grant) -> bool
-    ensures { IsTrue result ↔ IfNone (dead_words.dead (reverse h.now) grant.now.access)
-        (words.IsServed setting.now (reverse h.now) copy grant.now) }
+/// Whether no grant is in a request's way.
+pub fn is_free<H: Looks>(h: &mut H, copy: u8, grant: &Grant) -> bool
+    requires asked { parts.WasAskedFor (H.past h.old) (parts.ask_for copy grant.now) }
+    ensures free { IsTrue result ↔ (seen_words.holder (H.past h.old) copy grant.now.rec
+        grant.now.op grant.now.access ≡ None) }
+    ensures past { H.past h.new ≡ H.past h.old }
+    ensures setting { H.setting h.new ≡ H.setting h.old }
 {
-    match dead(h, &grant.access) {
+    h.holder(&ask_for(copy, grant)).is_none()
+}
+
+fn has_tuple<H: Looks>(h: &mut H, copy: u8, grant: &Grant) -> bool
+    requires asked { parts.WasAskedFor (H.past h.old) (parts.ask_for copy grant.now) }
+    ensures tuple { IsTrue result ↔ (grant.now.tuple
+        ≡ after (seen_words.seen (H.setting h.old).base (H.past h.old) copy grant.now.rec) grant.now.op) }
+    ensures past { H.past h.new ≡ H.past h.old }
+    ensures setting { H.setting h.new ≡ H.setting h.old }
+{
+    let held = h.held(&ask_for(copy, grant));
+    same_tuple(&grant.tuple, &held.after(&grant.op))
+}
+
+fn is_served<H: Looks>(setting: &Setting, h: &mut H, copy: u8, grant: &Grant) -> bool
+    requires asked { parts.WasAskedFor (H.past h.old) (parts.ask_for copy grant.now) }
+    requires setting { H.setting h.old ≡ setting.now }
+    ensures served { IsTrue result
+        ↔ words.IsServed setting.now (H.past h.old) copy grant.now }
+    ensures past { H.past h.new ≡ H.past h.old }
+    ensures setting { H.setting h.new ≡ H.setting h.old }
+{
+    if !is_free(h, copy, grant) {
+        return false;
+    }
+    has_tuple(h, copy, grant)
+}
+
+fn is_served_or_dead<H: Looks>(setting: &Setting, h: &mut H, copy: u8, grant: &Grant) -> bool
+    requires asked { parts.WasAskedFor (H.past h.old) (parts.ask_for copy grant.now) }
+    requires setting { H.setting h.old ≡ setting.now }
+    ensures served { IsTrue result ↔ IfNone (dead_words.dead (H.past h.old) grant.now.access)
+        (words.IsServed setting.now (H.past h.old) copy grant.now) }
+    ensures past { H.past h.new ≡ H.past h.old }
+    ensures setting { H.setting h.new ≡ H.setting h.old }
+{
+    match h.dead(&grant.access) {
         Some(_) => true,
         None => is_served(setting, h, copy, grant),
     }
 }
 
-/// Whether a copy was asked for what it grants.
-pub fn was_asked(h: &[Entry], copy: u8, grant: &Grant) -> bool
-    ensures { IsTrue result ↔ MatchOption (history.asked (reverse h.now) grant.now.access) ⊥
-        (λ a. a.ask ≡ record {
-          access = grant.now.access;
-          copy = copy;
-          rec = grant.now.rec;
-          op = grant.now.op;
-        }) }
+// Whether a copy grants, once, what was asked of it.
+fn is_due<H: Looks>(setting: &Setting, h: &H, seat: u32, copy: u8, grant: &Grant) -> bool
+    ensures { IsTrue result ↔ parts.IsDue setting.now (H.past h.now) seat copy grant.now }
 {
-    match asked(h, &grant.access) {
-        Some(asked) => {
-            let wanted = Ask {
-                access: grant.access,
-                copy,
-                rec: grant.rec,
-                op: grant.op,
-            };
-            same_ask(&asked.ask(), &wanted)
-        }
-        None => false,
-    }
+    is_seat_of(seat, copy)
+        && was_asked(h, copy, grant)
+        && h.granted(&grant.access).is_none()
+        && sets(&grant.op, &grant.tuple)
+        && grant.tuple.config.count() == setting.copies()
 }
 
 /// Whether a copy may grant: once, what an access asked of it, and to a live access that finds no grant in
 /// its way, with the tuple there after its operation. What it tells a dead access is of no account.
-pub fn may_grant(setting: &Setting, h: &[Entry], seat: u32, copy: u8, grant: &Grant) -> bool
-    ensures { IsTrue result ↔ words.MayGrant setting.now (reverse h.now) seat copy grant.now }
+pub fn may_grant<H: Looks>(setting: &Setting, h: &mut H, seat: u32, copy: u8, grant: &Grant) -> bool
+    requires setting { H.setting h.old ≡ setting.now }
+    ensures may { IsTrue result
+        ↔ words.MayGrant setting.now (H.past h.old) seat copy grant.now }
+    ensures past { H.past h.new ≡ H.past h.old }
+    ensures setting { H.setting h.new ≡ H.setting h.old }
 {
-    is_seat_of(seat, copy)
-        && was_asked(h, copy, grant)
-        && granted(h, &grant.access).is_none()
-        && sets(&grant.op, &grant.tuple)
-        && grant.tuple.config.count() == setting.copies()
-        && is_served_or_dead(setting, h, copy, grant)
+    if !is_due(setting, h, seat, copy, grant) {
+        return false;
+    }
+    is_served_or_dead(setting, h, copy, grant)
 }
 
-fn is_refusal(h: &[Entry], ask: &Ask, refusal: &Refusal) -> bool
-    ensures { IsTrue result ↔ words.IsRefusal (reverse h.now) ask.now refusal.now }
+fn is_refusal<H: Looks>(h: &mut H, ask: &Ask, refusal: &Refusal) -> bool
+    requires asked { parts.WasAskedFor (H.past h.old) ask.now }
+    ensures refusal { IsTrue result ↔ words.IsRefusal (H.past h.old) ask.now refusal.now }
+    ensures past { H.past h.new ≡ H.past h.old }
+    ensures setting { H.setting h.new ≡ H.setting h.old }
 {
-    let killed = dead(h, &ask.access);
+    let killed = h.dead(&ask.access);
     match refusal {
         Refusal::Dead(ancestor) => is_this(killed, ancestor),
-        Refusal::Blocked(by) => {
-            killed.is_none() && is_this(holder(h, ask.copy, ask.rec, &ask.op, &ask.access), by)
-        }
+        Refusal::Blocked(by) => killed.is_none() && is_this(h.holder(ask), by),
     }
 }
 
 /// Whether a copy may refuse an access that asked it: a dead one, naming the shortest aborted ancestor, and
 /// a live one for the first grant in its way, naming the grant's access.
-pub fn may_refuse(h: &[Entry], seat: u32, access: &Name, copy: u8, refusal: &Refusal) -> bool
-    ensures { IsTrue result ↔ words.MayRefuse (reverse h.now) seat access.now copy refusal.now }
+#[tactic(auto, using(crate::proofs::Requested::was_asked_for))]
+pub fn may_refuse<H: Looks>(
+    h: &mut H,
+    seat: u32,
+    access: &Name,
+    copy: u8,
+    refusal: &Refusal,
+) -> bool
+    ensures may { IsTrue result
+        ↔ words.MayRefuse (H.past h.old) seat access.now copy refusal.now }
+    ensures past { H.past h.new ≡ H.past h.old }
+    ensures setting { H.setting h.new ≡ H.setting h.old }
 {
-    match asked(h, access) {
+    match h.asked(access) {
         Some(asked) => {
             let ask = asked.ask();
             is_seat_of(seat, copy) && ask.copy == copy && is_refusal(h, &ask, refusal)

@@ -1,5 +1,5 @@
-//! The rules of a legal history, by event, and a plain checker of histories by them, whose contract is the
-//! definition of a legal one.
+//! The rules of a legal history, by event and by whatever looks at the history, and a plain checker of histories by
+//! them, whose contract is the definition of a legal one.
 #![tactic(auto)]
 
 mod aborts;
@@ -11,5 +11,5 @@ mod rule;
 mod starts;
 mod users;
 
-pub use checker::{Illegal, check_by_scans};
+pub use checker::{Illegal, check_by_scans, is_allowed};
 pub use rule::Rule;

@@ -1,32 +1,32 @@
 //! What a manager's accesses may ask, when one is given up, and who may be unable to serve. None of these
 //! calls takes memory.
-ghost use Rattle.std.specs.Prelude.{◌≡◌, ◌↔◌, IsTrue, reverse};
+ghost use Rattle.std.specs.Prelude.{◌≡◌, ◌↔◌, IsTrue};
 ghost use Rattle.qc_event.specs.declared.event.Kind.TheVariants.{Access};
 ghost use Rattle.qc_event.specs.Manager as manager;
 ghost use Rattle.qc_event.specs.Requests as words;
 ghost use Rattle.qc_event.specs.Standing as standing;
 ghost use Rattle.qc_check.specs.Parts as parts;
 
-use qc_event::{Ask, Entry, Kind, LEDGER_SEAT, Name, Why, copy_seat, is_client};
+use qc_event::{Ask, Kind, LEDGER_SEAT, Name, Why, copy_seat, is_client};
 use qc_scan::{
-    Setting, Stage, asked, front, gone, is_asked_under, is_going, is_open, is_ready,
-    is_started_under, next_copy, record_of, same_op, stage_for, start, waiting, was_unable,
+    Looks, Setting, Stage, front, is_asked_under, is_going, is_open, is_started_under, next_copy,
+    record_of, same_op, stage_for, waiting,
 };
 
 // REQUESTS
 
-fn is_access_under(h: &[Entry], seat: u32, access: &Name) -> bool
-    ensures { IsTrue result ↔ standing.Started (reverse h.now) access.now
+fn is_access_under<H: Looks>(h: &H, seat: u32, access: &Name) -> bool
+    ensures { IsTrue result ↔ standing.Started (H.past h.now) access.now
         (λ a. (a.seat ≡ seat) × (a.kind ≡ Access)) }
 {
-    match start(h, access) {
+    match h.start(access) {
         Some(begun) => begun.seat() == seat && matches!(begun.kind(), Kind::Access),
         None => false,
     }
 }
 
-fn is_ask_at(h: &[Entry], m: &Name, kind: &Kind, ask: &Ask, stage: &Stage) -> bool
-    ensures { IsTrue result ↔ words.IsNextAsk (reverse h.now) m.now kind.now ask.now stage.now }
+fn is_ask_at<H: Looks>(h: &H, m: &Name, kind: &Kind, ask: &Ask, stage: &Stage) -> bool
+    ensures { IsTrue result ↔ words.IsNextAsk (H.past h.now) m.now kind.now ask.now stage.now }
 {
     match next_copy(h, m, stage) {
         Some(copy) => {
@@ -36,9 +36,9 @@ fn is_ask_at(h: &[Entry], m: &Name, kind: &Kind, ask: &Ask, stage: &Stage) -> bo
     }
 }
 
-fn is_next_ask(setting: &Setting, h: &[Entry], m: &Name, kind: &Kind, ask: &Ask) -> bool
-    ensures { IsTrue result ↔ manager.AtStage setting.now (reverse h.now) m.now kind.now
-        (words.IsNextAsk (reverse h.now) m.now kind.now ask.now) }
+fn is_next_ask<H: Looks>(setting: &Setting, h: &H, m: &Name, kind: &Kind, ask: &Ask) -> bool
+    ensures { IsTrue result ↔ manager.AtStage setting.now (H.past h.now) m.now kind.now
+        (words.IsNextAsk (H.past h.now) m.now kind.now ask.now) }
 {
     match stage_for(setting, h, m, kind) {
         Some(stage) => is_ask_at(h, m, kind, ask, &stage),
@@ -46,33 +46,33 @@ fn is_next_ask(setting: &Setting, h: &[Entry], m: &Name, kind: &Kind, ask: &Ask)
     }
 }
 
-fn is_asked_next(setting: &Setting, h: &[Entry], m: &Name, ask: &Ask) -> bool
-    ensures { IsTrue result ↔ standing.Started (reverse h.now) m.now (λ b.
-        manager.AtStage setting.now (reverse h.now) m.now b.kind
-        (words.IsNextAsk (reverse h.now) m.now b.kind ask.now)) }
+fn is_asked_next<H: Looks>(setting: &Setting, h: &H, m: &Name, ask: &Ask) -> bool
+    ensures { IsTrue result ↔ standing.Started (H.past h.now) m.now (λ b.
+        manager.AtStage setting.now (H.past h.now) m.now b.kind
+        (words.IsNextAsk (H.past h.now) m.now b.kind ask.now)) }
 {
-    match start(h, m) {
+    match h.start(m) {
         Some(begun) => is_next_ask(setting, h, m, &begun.kind(), ask),
         None => false,
     }
 }
 
-fn is_free_to_ask(h: &[Entry], seat: u32, ask: &Ask) -> bool
-    ensures { IsTrue result ↔ parts.IsFreeToAsk (reverse h.now) seat ask.now }
+fn is_free_to_ask<H: Looks>(h: &H, seat: u32, ask: &Ask) -> bool
+    ensures { IsTrue result ↔ parts.IsFreeToAsk (H.past h.now) seat ask.now }
 {
     let m = front(&ask.access);
     is_client(seat)
         && is_access_under(h, seat, &ask.access)
         && is_started_under(h, seat, &m)
         && is_going(h, &ask.access)
-        && asked(h, &ask.access).is_none()
+        && h.asked(&ask.access).is_none()
         && waiting(h, &m).is_none()
 }
 
 /// Whether an access may ask: once, under the seat at which it and its manager started, what its manager
 /// asks next, and only where the manager waits for no other access.
-pub fn may_ask(setting: &Setting, h: &[Entry], seat: u32, ask: &Ask) -> bool
-    ensures { IsTrue result ↔ words.MayAsk setting.now (reverse h.now) seat ask.now }
+pub fn may_ask<H: Looks>(setting: &Setting, h: &H, seat: u32, ask: &Ask) -> bool
+    ensures { IsTrue result ↔ words.MayAsk setting.now (H.past h.now) seat ask.now }
 {
     if !is_free_to_ask(h, seat, ask) {
         return false;
@@ -95,24 +95,24 @@ fn is_ledger_fault(why: Why) -> bool
     matches!(why, Why::Down | Why::Full)
 }
 
-fn is_unable_copy(h: &[Entry], seat: u32, n: &Name, why: Why) -> bool
-    ensures { IsTrue result ↔ words.IsUnableCopy (reverse h.now) seat n.now why }
+fn is_unable_copy<H: Looks>(h: &H, seat: u32, n: &Name, why: Why) -> bool
+    ensures { IsTrue result ↔ words.IsUnableCopy (H.past h.now) seat n.now why }
 {
-    match asked(h, n) {
+    match h.asked(n) {
         Some(asked) => seat == copy_seat(asked.ask().copy) && is_fault(why),
         None => false,
     }
 }
 
-fn is_unable_ledger(h: &[Entry], seat: u32, n: &Name, why: Why) -> bool
-    ensures { IsTrue result ↔ words.IsUnableLedger (reverse h.now) seat n.now why }
+fn is_unable_ledger<H: Looks>(h: &H, seat: u32, n: &Name, why: Why) -> bool
+    ensures { IsTrue result ↔ words.IsUnableLedger (H.past h.now) seat n.now why }
 {
-    seat == LEDGER_SEAT && n.len() == 1 && is_ready(h, n) && is_ledger_fault(why)
+    seat == LEDGER_SEAT && n.len() == 1 && h.is_ready(n) && is_ledger_fault(why)
 }
 
 /// Whether a copy may be unable to serve an access that asked it, or the ledger to log a top that is ready.
-pub fn may_be_unable(h: &[Entry], seat: u32, n: &Name, why: Why) -> bool
-    ensures { IsTrue result ↔ words.MayBeUnable (reverse h.now) seat n.now why }
+pub fn may_be_unable<H: Looks>(h: &H, seat: u32, n: &Name, why: Why) -> bool
+    ensures { IsTrue result ↔ words.MayBeUnable (H.past h.now) seat n.now why }
 {
     is_unable_copy(h, seat, n, why) || is_unable_ledger(h, seat, n, why)
 }
@@ -121,12 +121,12 @@ pub fn may_be_unable(h: &[Entry], seat: u32, n: &Name, why: Why) -> bool
 
 /// Whether an access may be given up: it asked under this seat, is open, and was not given up before. That
 /// its copy was unable wants the copy's own word.
-pub fn may_give_up(h: &[Entry], seat: u32, access: &Name, why: Why) -> bool
-    ensures { IsTrue result ↔ words.MayGiveUp (reverse h.now) seat access.now why }
+pub fn may_give_up<H: Looks>(h: &H, seat: u32, access: &Name, why: Why) -> bool
+    ensures { IsTrue result ↔ words.MayGiveUp (H.past h.now) seat access.now why }
 {
     is_client(seat)
         && is_asked_under(h, seat, access)
         && is_open(h, access)
-        && gone(h, access).is_none()
-        && (!is_fault(why) || was_unable(h, access, why))
+        && h.gone(access).is_none()
+        && (!is_fault(why) || h.was_unable(access, why))
 }

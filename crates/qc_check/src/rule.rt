@@ -1,13 +1,11 @@
 //! Which rule refuses an entry. None of these calls takes memory.
-ghost use Rattle.std.specs.Prelude.{◌≡◌, ◌↔◌, IsTrue, reverse};
+ghost use Rattle.std.specs.Prelude.{◌≡◌, ◌↔◌, IsTrue};
 ghost use Rattle.qc_check.specs.Breaks as words;
 
 use crate::aborts::is_licensed;
-use crate::grants::{is_seat_of, was_asked};
-use qc_event::{
-    Ask, Cause, Entry, Event, Grant, How, Kind, LEDGER_SEAT, Name, dead, holder, is_client,
-};
-use qc_scan::{Setting, front, granted, is_done, is_manager, open_child, start, waiting};
+use crate::grants::{is_free, is_seat_of, was_asked};
+use qc_event::{Ask, Cause, Entry, Event, Grant, How, Kind, LEDGER_SEAT, Name, is_client};
+use qc_scan::{Looks, Setting, front, is_done, is_manager, waiting};
 use thiserror::Error;
 
 /// The rules of a legal history. Where an entry is not allowed, the first of its event's rules that it
@@ -89,8 +87,8 @@ fn seat_fits(seat: u32, event: &Event) -> bool
     }
 }
 
-fn ask_rule(h: &[Entry], ask: &Ask) -> Rule
-    ensures { words.AskBreaks (reverse h.now) ask.now result }
+fn ask_rule<H: Looks>(h: &H, ask: &Ask) -> Rule
+    ensures { words.AskBreaks (H.past h.now) ask.now result }
 {
     if waiting(h, &front(&ask.access)).is_some() {
         Rule::Waiting
@@ -99,36 +97,36 @@ fn ask_rule(h: &[Entry], ask: &Ask) -> Rule
     }
 }
 
-fn grant_rule(h: &[Entry], copy: u8, grant: &Grant) -> Rule
-    ensures { words.GrantBreaks (reverse h.now) copy grant.now result }
+fn grant_rule<H: Looks>(h: &mut H, copy: u8, grant: &Grant) -> Rule
+    ensures { words.GrantBreaks (H.past h.old) copy grant.now result }
 {
     if !was_asked(h, copy, grant) {
         return Rule::Wanted;
     }
-    if granted(h, &grant.access).is_some() {
+    if h.granted(&grant.access).is_some() {
         return Rule::Once;
     }
-    if dead(h, &grant.access).is_some() {
+    if h.dead(&grant.access).is_some() {
         return Rule::Tuple;
     }
-    if holder(h, copy, grant.rec, &grant.op, &grant.access).is_some() {
+    if !is_free(h, copy, grant) {
         return Rule::Clear;
     }
     Rule::Tuple
 }
 
-fn ready_rule(h: &[Entry], top: &Name) -> Rule
-    ensures { words.ReadyBreaks (reverse h.now) top.now result }
+fn ready_rule<H: Looks>(h: &H, top: &Name) -> Rule
+    ensures { words.ReadyBreaks (H.past h.now) top.now result }
 {
-    if open_child(h, top).is_some() {
+    if !h.children_ended(top) {
         Rule::OpenChild
     } else {
         Rule::Ready
     }
 }
 
-fn falls_short(setting: &Setting, h: &[Entry], m: &Name, kind: &Kind) -> bool
-    ensures { IsTrue result ↔ words.FallsShort setting.now (reverse h.now) m.now kind.now }
+fn falls_short<H: Looks>(setting: &Setting, h: &H, m: &Name, kind: &Kind) -> bool
+    ensures { IsTrue result ↔ words.FallsShort setting.now (H.past h.now) m.now kind.now }
 {
     if !is_manager(kind) {
         return false;
@@ -136,19 +134,19 @@ fn falls_short(setting: &Setting, h: &[Entry], m: &Name, kind: &Kind) -> bool
     !is_done(setting, h, m, kind)
 }
 
-fn is_incomplete(setting: &Setting, h: &[Entry], n: &Name) -> bool
-    ensures { IsTrue result ↔ words.IsIncomplete setting.now (reverse h.now) n.now }
+fn is_incomplete<H: Looks>(setting: &Setting, h: &H, n: &Name) -> bool
+    ensures { IsTrue result ↔ words.IsIncomplete setting.now (H.past h.now) n.now }
 {
-    match start(h, n) {
+    match h.start(n) {
         Some(begun) => falls_short(setting, h, n, &begun.kind()),
         None => false,
     }
 }
 
-fn commit_rule(setting: &Setting, h: &[Entry], n: &Name) -> Rule
-    ensures { words.CommitBreaks setting.now (reverse h.now) n.now result }
+fn commit_rule<H: Looks>(setting: &Setting, h: &H, n: &Name) -> Rule
+    ensures { words.CommitBreaks setting.now (H.past h.now) n.now result }
 {
-    if open_child(h, n).is_some() {
+    if !h.children_ended(n) {
         return Rule::OpenChild;
     }
     if is_incomplete(setting, h, n) {
@@ -157,17 +155,17 @@ fn commit_rule(setting: &Setting, h: &[Entry], n: &Name) -> Rule
     Rule::Commit
 }
 
-fn has_licence(setting: &Setting, h: &[Entry], seat: u32, n: &Name, cause: &Cause) -> bool
-    ensures { IsTrue result ↔ words.HasLicence setting.now (reverse h.now) seat n.now cause.now }
+fn has_licence<H: Looks>(setting: &Setting, h: &H, seat: u32, n: &Name, cause: &Cause) -> bool
+    ensures { IsTrue result ↔ words.HasLicence setting.now (H.past h.now) seat n.now cause.now }
 {
-    match start(h, n) {
+    match h.start(n) {
         Some(begun) => is_licensed(setting, h, seat, n, &begun, cause),
         None => false,
     }
 }
 
-fn abort_rule(setting: &Setting, h: &[Entry], seat: u32, n: &Name, cause: &Cause) -> Rule
-    ensures { words.AbortBreaks setting.now (reverse h.now) seat n.now cause.now result }
+fn abort_rule<H: Looks>(setting: &Setting, h: &H, seat: u32, n: &Name, cause: &Cause) -> Rule
+    ensures { words.AbortBreaks setting.now (H.past h.now) seat n.now cause.now result }
 {
     if has_licence(setting, h, seat, n, cause) {
         Rule::Abort
@@ -176,8 +174,8 @@ fn abort_rule(setting: &Setting, h: &[Entry], seat: u32, n: &Name, cause: &Cause
     }
 }
 
-fn event_rule(setting: &Setting, h: &[Entry], seat: u32, event: &Event) -> Rule
-    ensures { words.EventBreaks setting.now (reverse h.now) seat event.now result }
+fn event_rule<H: Looks>(setting: &Setting, h: &mut H, seat: u32, event: &Event) -> Rule
+    ensures { words.EventBreaks setting.now (H.past h.old) seat event.now result }
 {
     match event {
         Event::Start { name: _, kind: _ } => Rule::Start,
@@ -200,8 +198,8 @@ fn event_rule(setting: &Setting, h: &[Entry], seat: u32, event: &Event) -> Rule
 }
 
 /// The rule that refuses an entry, if one does: the first of its event's rules that it breaks.
-pub fn breaks(setting: &Setting, h: &[Entry], e: &Entry) -> Rule
-    ensures { words.Breaks setting.now (reverse h.now) e.now result }
+pub fn breaks<H: Looks>(setting: &Setting, h: &mut H, e: &Entry) -> Rule
+    ensures { words.Breaks setting.now (H.past h.old) e.now result }
 {
     if seat_fits(e.seat, &e.event) {
         event_rule(setting, h, e.seat, &e.event)

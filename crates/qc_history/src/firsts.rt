@@ -24,7 +24,7 @@ pub struct Firsts {
 
 impl Firsts {
     /// Those of no entries. It takes no memory.
-    pub(crate) fn new(alloc: Global) -> Self
+    pub fn new(alloc: Global) -> Self
         ensures { (subject : Subject) → AreFirsts subject result [] }
     {
         Firsts {
@@ -33,7 +33,7 @@ impl Firsts {
     }
 
     /// Makes room for an entry about a name, of the same history; for one about no name it takes no memory.
-    pub(crate) fn make_room(&mut self, name: Option<Name>, names: &Index) -> Result<(), AllocError>
+    pub fn make_room(&mut self, name: Option<Name>, names: &Index) -> Result<(), AllocError>
         ensures same { (subject : Subject) → (past : Past) →
             AreFirsts subject self.old past → AreFirsts subject self.new past }
         ensures room { OnOk result
@@ -44,7 +44,7 @@ impl Firsts {
 
     /// Takes in an entry that may come next, for which there is room, at its place, by the name that it is about. The
     /// index of names has it.
-    pub(crate) fn push(&mut self, name: Option<Name>, names: &Index, at: u32)
+    pub fn push(&mut self, name: Option<Name>, names: &Index, at: u32)
         requires { at < limit }
         ensures { (subject : Subject) → (setting : Setting) → (past : Past) → (e : Entry) →
             ComesAfterStart subject → AreFirsts subject self.old past →
@@ -64,7 +64,7 @@ impl Firsts {
     }
 
     /// The first entry about a name.
-    pub(crate) fn first(&self, names: &Index, entries: &Trail, name: &Name) -> Option<Entry>
+    pub fn first(&self, names: &Index, entries: &Trail, name: &Name) -> Option<Entry>
         ensures { (subject : Subject) → (setting : Setting) →
             AreFirsts subject self.now (reverse entries.now) →
             IsOf names.now (reverse entries.now) → Legal setting (reverse entries.now) →

@@ -7,6 +7,8 @@ ghost use Rattle.qc_event.specs.History.{limit};
 ghost use Rattle.qc_event.specs.Legal.{Legal};
 ghost use Rattle.qc_event.specs.Standing.{open_child};
 ghost use Rattle.qc_names.specs.Name.{longest};
+ghost use Rattle.qc_history.specs.Index.{IsOf};
+ghost use Rattle.qc_history.specs.Indexes.{AreOf};
 ghost use Rattle.qc_history.specs.Looking.{WhereLegal};
 
 use crate::index::Index;
@@ -57,6 +59,7 @@ impl Model for History {
     ghost use Rattle.qc_event.specs.History.{limit};
     ghost use Rattle.qc_history.specs.Index.{IsOf};
     ghost use Rattle.qc_history.specs.Indexes.{AreOf};
+    ghost use Rattle.qc_history.specs.Indexes.{AreOf};
 
     ghost Value = { List Entry };
 
@@ -84,6 +87,27 @@ impl History {
         ensures bounded { length self.now ≤ limit }
     {
         self.entries.len()
+    }
+
+    /// The index of the names.
+    pub fn names(&self) -> &Index
+        ensures { IsOf result.now self.now }
+    {
+        &self.index
+    }
+
+    /// The entries, the oldest first.
+    pub fn entries(&self) -> &Trail
+        ensures { reverse result.now ≡ self.now }
+    {
+        &self.entries
+    }
+
+    /// What is kept beside the index.
+    pub fn beside(&self) -> &Indexes
+        ensures { AreOf result.now self.now }
+    {
+        &self.beside
     }
 
     fn take_in(&mut self, entry: &Entry) -> Result<(), AllocError>

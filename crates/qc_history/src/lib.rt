@@ -17,6 +17,7 @@ mod opens;
 mod slots;
 mod steps;
 
+pub use firsts::Firsts;
 pub use history::History;
 pub use index::Index;
 pub use indexes::Indexes;

@@ -4,3 +4,4 @@ pub mod Stands
 pub mod Ranges
 pub mod Raised
 pub mod Stages
+pub mod Search

@@ -1,62 +1,43 @@
--- What a manager's reads replied, one entry after another.
-use Rattle.std.proofs.Common.{◌≡◌, ℕ, ◌+◌, ◌<◌, ◌≤◌, Bool, true, false, cond, List, [], ◌∷◌, length, take, get_or, reverse, refl, sym, ap, ◌∙◌}
-use Rattle.std.specs.Prelude.{Option, None, Some, fold, filter, filter_map, unwrap_or, if◌then◌else◌}
+-- What a manager's reads replied, one request after another.
+use Rattle.std.proofs.Common.{◌≡◌, ℕ, ◌+◌, ◌≤◌, Bool, true, false, cond, List, [], ◌∷◌, length, drop, refl, sym, ap, ◌∙◌}
+use Rattle.std.specs.Prelude.{Option, None, Some, fold, filter, filter_map, slice_get, unwrap_or, if◌then◌else◌}
 use Rattle.std.specs.List.{cons_option}
-use Rattle.std.proofs.lemmas.List.{take_more, take_all}
-use Rattle.std.proofs.lemmas.List.Elements.{filter_map-append}
-use Rattle.std.proofs.lemmas.List.Sums.{fold-append}
+use Rattle.std.proofs.lemmas.List.{drop_all}
 use Rattle.qc_config.specs.declared.tuple.Tuple.{Tuple}
 use Rattle.qc_event.specs.declared.event.Ask.{Ask}
-use Rattle.qc_event.specs.declared.event.Entry.{Entry}
 use Rattle.qc_event.specs.Clear.{is_get}
-use Rattle.qc_event.specs.History.{Past, Name, ask_below}
-use Rattle.qc_event.specs.Manager.{Greatest, greatest_among, greater, replies, reply}
-use Rattle.qc_scan.specs.Raised.{raised, reply_to, reply_in}
-use Rattle.qc_scan.proofs.Everyone.{every_is}
+use Rattle.qc_event.specs.History.{Past}
+use Rattle.qc_event.specs.Manager.{Greatest, greatest_among, greater, reply}
+use Rattle.qc_scan.specs.Raised.{raised, reply_to, replies_to}
+use Rattle.qc_scan.proofs.Search.{from_here}
 
--- the replies to a list of requests
-abbrev to_asks : Past → List Ask → List Tuple
-to_asks past all = filter_map (λ (ask : Ask). reply past ask.access) (filter (λ (ask : Ask). is_get ask.op) all)
-
-to_one : (past : Past) (o : Option Ask) (all : List Ask) → to_asks past (cons_option o all) ≡ cons_option (reply_to past o) (to_asks past all)
-to_one past None all = refl
-to_one past (Some ask) all = by (is_get ask.op)
+one_more : (past : Past) (ask : Ask) (rest : List Ask) → replies_to past (ask ∷ rest) ≡ cons_option (reply_to past ask) (replies_to past rest)
+one_more past ask rest = by (is_get ask.op)
   where
-    by : (b : Bool) → filter_map (λ (a : Ask). reply past a.access) (cond b (ask ∷ filter (λ (a : Ask). is_get a.op) all) (filter (λ (a : Ask). is_get a.op) all)) ≡ cons_option (if b then reply past ask.access else None) (to_asks past all)
+    by : (b : Bool) → filter_map (λ (a : Ask). reply past a.access) (cond b (ask ∷ filter (λ (a : Ask). is_get a.op) rest) (filter (λ (a : Ask). is_get a.op) rest)) ≡ cons_option (if b then reply past ask.access else None) (replies_to past rest)
     by true = refl
     by false = refl
 
-in_entries : (past : Past) (m : Name) (h : List Entry) → to_asks past (filter_map (λ (e : Entry). ask_below m e.event) h) ≡ filter_map (reply_in past m) h
-in_entries past m [] = refl
-in_entries past m (e ∷ h) =
-    to_one past (ask_below m e.event) (filter_map (λ (x : Entry). ask_below m x.event) h) ∙ ap (cons_option (reply_in past m e)) (in_entries past m h)
-
--- a manager's replies are those that its entries tell
-pub replies_are : (h : List Entry) (m : Name) → replies (reverse h) m ≡ filter_map (reply_in (reverse h) m) h
-replies_are h m = ap (to_asks (reverse h)) (every_is (λ (e : Entry). ask_below m e.event) h) ∙ in_entries (reverse h) m h
-
-module _ {Y B : Type 0} (step : B → Y → B) where
+module _ {B : Type 0} (step : B → Tuple → B) (past : Past) (requests : List Ask) (k : ℕ) (b : B) where
   -- a fold, one answer further
-  abbrev pub onward : B → Option Y → B
-  onward b None = b
-  onward b (Some y) = step b y
+  abbrev pub onward : Option Tuple → B
+  onward None = b
+  onward (Some t) = step b t
 
-  fold_one : (b : B) (o : Option Y) → fold step b (cons_option o []) ≡ onward b o
-  fold_one b None = refl
-  fold_one b (Some y) = refl
+  pub fold_one : (o : Option Tuple) (ts : List Tuple) → fold step b (cons_option o ts) ≡ fold step (onward o) ts
+  fold_one None ts = refl
+  fold_one (Some t) ts = refl
 
-  -- a fold of what the entries answer, one entry further
-  pub fold_further : (f : Entry → Option Y) (h : List Entry) (i : ℕ) (b : B) (e : Entry) → i < length h → e ≡ get_or h i e → fold step b (filter_map f (take (i + 1) h)) ≡ onward (fold step b (filter_map f (take i h))) (f e)
-  fold_further f h i b e lt item =
-      ap (λ l. fold step b (filter_map f l)) (take_more h i e lt)
-      ∙ ap (fold step b) (filter_map-append f (take i h) (get_or h i e ∷ []))
-      ∙ fold-append step b (filter_map f (take i h)) (filter_map f (get_or h i e ∷ []))
-      ∙ fold_one (fold step b (filter_map f (take i h))) (f (get_or h i e))
-      ∙ ap (λ x. onward (fold step b (filter_map f (take i h))) (f x)) (sym item)
+  -- a fold of what the requests replied, one request further
+  pub fold_further : (ask : Ask) → slice_get requests k ≡ Some ask → fold step b (replies_to past (drop k requests)) ≡ fold step (onward (reply_to past ask)) (replies_to past (drop (k + 1) requests))
+  fold_further ask at =
+      ap (λ l. fold step b (replies_to past l)) (from_here requests k ask at)
+      ∙ ap (fold step b) (one_more past ask (drop (k + 1) requests))
+      ∙ fold_one (reply_to past ask) (replies_to past (drop (k + 1) requests))
 
-  -- a fold over every entry
-  pub fold_all : (f : Entry → Option Y) (h : List Entry) (i : ℕ) (b : B) → length h ≤ i → fold step b (filter_map f (take i h)) ≡ fold step b (filter_map f h)
-  fold_all f h i b past = ap (λ l. fold step b (filter_map f l)) (take_all i h past)
+  -- a fold over every request
+  pub fold_all : length requests ≤ k → fold step b (replies_to past (drop k requests)) ≡ b
+  fold_all over = ap (λ l. fold step b (replies_to past l)) (drop_all k requests over)
 
 some_greatest : (best : Greatest) (ts : List Tuple) → fold raised (Some best) ts ≡ Some (fold greater best ts)
 some_greatest best [] = refl

@@ -1,30 +1,29 @@
 //! What a manager asked, and what became of it. None of these calls takes memory.
-ghost use Rattle.std.specs.Prelude.{◌≡◌, ◌<◌, reverse};
+ghost use Rattle.std.specs.Prelude.{◌≡◌, ◌==◌, ◌&&◌, is_none, is_some};
 ghost use Rattle.qc_scan.specs.Blocked as blocked;
 ghost use Rattle.qc_event.specs.Clear as clear;
 ghost use Rattle.qc_event.specs.History as history;
 ghost use Rattle.qc_event.specs.Manager as words;
 
-use crate::scan::{end, gone, refused};
-use crate::standing::is_child;
-use qc_event::{Answer, Ask, Copies, Entry, Event, How, Name, Op, Phase, Refusal, Tuple, Why};
+use crate::looks::Looks;
+use qc_event::{Answer, Ask, Copies, How, Name, Op, Phase, Refusal, Tuple, Why};
 
 /// The tuple that an access replied.
-pub fn reply(h: &[Entry], access: &Name) -> Option<Tuple>
-    ensures { result ≡ words.reply (reverse h.now) access.now }
+pub fn reply<H: Looks>(h: &H, access: &Name) -> Option<Tuple>
+    ensures { result ≡ words.reply (H.past h.now) access.now }
 {
-    match end(h, access) {
+    match h.end(access) {
         Some(How::Commit(Answer::Reply(tuple))) => Some(tuple),
         _ => None,
     }
 }
 
 /// Why an access is missing.
-pub fn missing(h: &[Entry], access: &Name) -> Option<Why>
-    ensures { result ≡ words.missing (reverse h.now) access.now }
+pub fn missing<H: Looks>(h: &H, access: &Name) -> Option<Why>
+    ensures { result ≡ words.missing (H.past h.now) access.now }
 {
-    match end(h, access) {
-        Some(How::Abort(_)) => gone(h, access),
+    match h.end(access) {
+        Some(How::Abort(_)) => h.gone(access),
         _ => None,
     }
 }
@@ -39,11 +38,11 @@ fn holder_in(refusal: &Refusal) -> Option<Name>
 }
 
 /// The holder by which an access is blocked.
-pub fn blocked_by(h: &[Entry], access: &Name) -> Option<Name>
-    ensures { result ≡ words.blocked_by (reverse h.now) access.now }
+pub fn blocked_by<H: Looks>(h: &H, access: &Name) -> Option<Name>
+    ensures { result ≡ words.blocked_by (H.past h.now) access.now }
 {
-    match end(h, access) {
-        Some(How::Abort(_)) if gone(h, access).is_none() => match refused(h, access) {
+    match h.end(access) {
+        Some(How::Abort(_)) if h.gone(access).is_none() => match h.refused(access) {
             Some(refusal) => holder_in(&refusal),
             None => None,
         },
@@ -75,40 +74,62 @@ pub fn is_get(op: &Op) -> bool
     matches!(op, Op::Get)
 }
 
-/// The request of a manager's access, where an entry is one.
-pub fn ask_below(e: &Entry, m: &Name) -> Option<Ask>
-    ensures { result ≡ history.ask_below m.now e.now.event }
+fn is_ask_to(ask: &Ask, phase: Phase, copy: u8) -> bool
+    ensures { result
+        ≡ (words.is_phase phase (words.phase_of ask.now.op) && (ask.now.copy == copy)) }
 {
-    match &e.event {
-        Event::Ask(ask) if is_child(m, &ask.access) => Some(*ask),
-        _ => None,
-    }
+    is_in(ask, phase) && ask.copy == copy
+}
+
+fn has_reply<H: Looks>(h: &H, ask: &Ask, phase: Phase, copy: u8) -> bool
+    ensures { result ≡ (words.is_phase phase (words.phase_of ask.now.op)
+        && ((ask.now.copy == copy) && is_some (words.reply (H.past h.now) ask.now.access))) }
+{
+    is_in(ask, phase) && ask.copy == copy && reply(h, &ask.access).is_some()
+}
+
+fn is_blocked<H: Looks>(h: &H, ask: &Ask, phase: Phase) -> bool
+    ensures { result ≡ (words.is_phase phase (words.phase_of ask.now.op)
+        && is_some (words.blocked_by (H.past h.now) ask.now.access)) }
+{
+    is_in(ask, phase) && blocked_by(h, &ask.access).is_some()
+}
+
+fn is_open_ask<H: Looks>(h: &H, ask: &Ask) -> bool
+    ensures { result ≡ is_none (history.end (H.past h.now) ask.now.access) }
+{
+    h.end(&ask.access).is_none()
 }
 
 /// A manager's request to a copy in a phase.
-pub fn ask_at(h: &[Entry], m: &Name, phase: Phase, copy: u8) -> Option<Ask>
-    ensures { result ≡ words.ask_at (reverse h.now) m.now phase copy }
+pub fn ask_at<H: Looks>(h: &H, m: &Name, phase: Phase, copy: u8) -> Option<Ask>
+    ensures { result ≡ words.ask_at (H.past h.now) m.now phase copy }
 {
-    h.iter()
-        .filter_map(|e| ask_below(e, m))
-        .filter(|ask| is_in(ask, phase))
-        .find(|ask| ask.copy == copy)
+    for k in 0..h.asks(m) {
+        let ask = h.ask(m, k);
+        if is_ask_to(&ask, phase, copy) {
+            return Some(ask);
+        }
+    }
+    None
 }
 
 /// Whether a copy replied to a manager in a phase.
-pub fn has_replied(h: &[Entry], m: &Name, phase: Phase, copy: u8) -> bool
-    ensures { result ≡ words.has_replied (reverse h.now) m.now phase copy }
+pub fn has_replied<H: Looks>(h: &H, m: &Name, phase: Phase, copy: u8) -> bool
+    ensures { result ≡ words.has_replied (H.past h.now) m.now phase copy }
 {
-    h.iter()
-        .filter_map(|e| ask_below(e, m))
-        .filter(|ask| is_in(ask, phase))
-        .find(|ask| ask.copy == copy && reply(h, &ask.access).is_some())
-        .is_some()
+    for k in 0..h.asks(m) {
+        let ask = h.ask(m, k);
+        if has_reply(h, &ask, phase, copy) {
+            return true;
+        }
+    }
+    false
 }
 
 /// The copies that replied to a manager in a phase.
-pub fn replied(h: &[Entry], m: &Name, phase: Phase) -> Copies
-    ensures { result ≡ words.replied (reverse h.now) m.now phase }
+pub fn replied<H: Looks>(h: &H, m: &Name, phase: Phase) -> Copies
+    ensures { result ≡ words.replied (H.past h.now) m.now phase }
 {
     let mut copies = Copies::none();
     for c in 0..16 {
@@ -120,8 +141,8 @@ pub fn replied(h: &[Entry], m: &Name, phase: Phase) -> Copies
 }
 
 /// Why a copy is missing in a phase.
-pub fn missing_at(h: &[Entry], m: &Name, phase: Phase, copy: u8) -> Option<Why>
-    ensures { result ≡ words.missing_at (reverse h.now) m.now phase copy }
+pub fn missing_at<H: Looks>(h: &H, m: &Name, phase: Phase, copy: u8) -> Option<Why>
+    ensures { result ≡ words.missing_at (H.past h.now) m.now phase copy }
 {
     match ask_at(h, m, phase, copy) {
         Some(ask) => missing(h, &ask.access),
@@ -130,20 +151,27 @@ pub fn missing_at(h: &[Entry], m: &Name, phase: Phase, copy: u8) -> Option<Why>
 }
 
 /// The first request of a phase whose access is blocked.
-pub fn first_blocked(h: &[Entry], m: &Name, phase: Phase) -> Option<Ask>
-    ensures { result ≡ words.first_blocked (reverse h.now) m.now phase }
+pub fn first_blocked<H: Looks>(h: &H, m: &Name, phase: Phase) -> Option<Ask>
+    ensures { result ≡ words.first_blocked (H.past h.now) m.now phase }
 {
-    h.iter()
-        .filter_map(|e| ask_below(e, m))
-        .filter(|ask| is_in(ask, phase))
-        .find(|ask| blocked_by(h, &ask.access).is_some())
+    for k in 0..h.asks(m) {
+        let ask = h.ask(m, k);
+        if is_blocked(h, &ask, phase) {
+            return Some(ask);
+        }
+    }
+    None
 }
 
 /// The first request of a manager whose access is open.
-pub fn waiting(h: &[Entry], m: &Name) -> Option<Ask>
-    ensures { result ≡ words.waiting (reverse h.now) m.now }
+pub fn waiting<H: Looks>(h: &H, m: &Name) -> Option<Ask>
+    ensures { result ≡ words.waiting (H.past h.now) m.now }
 {
-    h.iter()
-        .filter_map(|e| ask_below(e, m))
-        .find(|ask| end(h, &ask.access).is_none())
+    for k in 0..h.asks(m) {
+        let ask = h.ask(m, k);
+        if is_open_ask(h, &ask) {
+            return Some(ask);
+        }
+    }
+    None
 }

@@ -1,11 +1,12 @@
 //! What a manager does next (Gifford's votes and versions). None of these calls takes memory.
-ghost use Rattle.std.specs.Prelude.{◌≡◌, ◌↔◌, ◌<◌, ◌-◌, ◌^◌, [], ◌∷◌, IsTrue, true, reverse, find, not};
+ghost use Rattle.std.specs.Prelude.{◌≡◌, ◌↔◌, ◌<◌, ◌-◌, ◌^◌, [], ◌∷◌, IsTrue, true, find, not};
 ghost use Rattle.qc_scan.specs.Raised as raised;
 ghost use Rattle.qc_event.specs.Manager as words;
 
-use crate::asks::{ask_at, ask_below, is_get, replied, reply, waiting};
+use crate::asks::{ask_at, is_get, replied, reply, waiting};
+use crate::looks::Looks;
 use crate::standing::is_manager;
-use qc_event::{Config, Entry, Kind, Name, Op, Phase, Tuple};
+use qc_event::{Ask, Config, Kind, Name, Op, Phase, Tuple};
 use std::marker::Model;
 
 /// A configuration and its generation.
@@ -92,15 +93,15 @@ fn raised(best: Option<GreatestValue>, tuple: &Tuple) -> Option<GreatestValue>
 
 /// A manager's newest configuration: that of the greatest generation among the record's first one, of
 /// generation 0, and those replied; the earliest of equals.
-pub fn newest(h: &[Entry], first: &Config, m: &Name) -> NewestConfig
-    ensures { result ≡ words.newest (reverse h.now) first.now m.now }
+pub fn newest<H: Looks>(h: &H, first: &Config, m: &Name) -> NewestConfig
+    ensures { result ≡ words.newest (H.past h.now) first.now m.now }
 {
     let mut best = NewestConfig {
         generation: 0,
         config: *first,
     };
-    for e in h {
-        if let Some(tuple) = reply_in(h, m, e) {
+    for k in 0..h.asks(m) {
+        if let Some(tuple) = reply_to(h, &h.ask(m, k)) {
             best = best.newer(&tuple);
         }
     }
@@ -109,12 +110,12 @@ pub fn newest(h: &[Entry], first: &Config, m: &Name) -> NewestConfig
 
 /// A manager's value of the greatest version among those replied; the earliest of equals, and 0 of
 /// version 0 where there are none.
-pub fn greatest(h: &[Entry], m: &Name) -> GreatestValue
-    ensures { result ≡ words.greatest (reverse h.now) m.now }
+pub fn greatest<H: Looks>(h: &H, m: &Name) -> GreatestValue
+    ensures { result ≡ words.greatest (H.past h.now) m.now }
 {
     let mut best = None;
-    for e in h {
-        if let Some(tuple) = reply_in(h, m, e) {
+    for k in 0..h.asks(m) {
+        if let Some(tuple) = reply_to(h, &h.ask(m, k)) {
             best = raised(best, &tuple);
         }
     }
@@ -124,12 +125,13 @@ pub fn greatest(h: &[Entry], m: &Name) -> GreatestValue
     })
 }
 
-fn reply_in(h: &[Entry], m: &Name, e: &Entry) -> Option<Tuple>
-    ensures { result ≡ raised.reply_in (reverse h.now) m.now e.now }
+fn reply_to<H: Looks>(h: &H, ask: &Ask) -> Option<Tuple>
+    ensures { result ≡ raised.reply_to (H.past h.now) ask.now }
 {
-    match ask_below(e, m) {
-        Some(ask) if is_get(&ask.op) => reply(h, &ask.access),
-        _ => None,
+    if is_get(&ask.op) {
+        reply(h, &ask.access)
+    } else {
+        None
     }
 }
 
@@ -201,8 +203,8 @@ impl Stage {
     }
 }
 
-fn is_enough(h: &[Entry], m: &Name, stage: &Stage) -> bool
-    ensures { result ≡ words.is_enough (reverse h.now) m.now stage.now }
+fn is_enough<H: Looks>(h: &H, m: &Name, stage: &Stage) -> bool
+    ensures { result ≡ words.is_enough (H.past h.now) m.now stage.now }
 {
     let copies = replied(h, m, stage.phase);
     if stage.writes {
@@ -223,15 +225,15 @@ fn is_last(kind: &Kind, now: &NewestConfig, found: &GreatestValue) -> bool
 }
 
 /// Whether a manager is at its last number: it has collected enough, and the number to raise is the last.
-pub fn at_last_number(h: &[Entry], first: &Config, m: &Name, kind: &Kind) -> bool
-    ensures { result ≡ words.at_last_number (reverse h.now) first.now m.now kind.now }
+pub fn at_last_number<H: Looks>(h: &H, first: &Config, m: &Name, kind: &Kind) -> bool
+    ensures { result ≡ words.at_last_number (H.past h.now) first.now m.now kind.now }
 {
     let now = newest(h, first, m);
     is_enough(h, m, &Stage::collecting(&now)) && is_last(kind, &now, &greatest(h, m))
 }
 
-fn if_short(h: &[Entry], m: &Name, stage: Stage) -> Option<Stage>
-    ensures { result ≡ find (λ s. not (words.is_enough (reverse h.now) m.now s)) (stage ∷ []) }
+fn if_short<H: Looks>(h: &H, m: &Name, stage: Stage) -> Option<Stage>
+    ensures { result ≡ find (λ s. not (words.is_enough (H.past h.now) m.now s)) (stage ∷ []) }
 {
     if is_enough(h, m, &stage) {
         None
@@ -241,15 +243,15 @@ fn if_short(h: &[Entry], m: &Name, stage: Stage) -> Option<Stage>
 }
 
 // The stage after the collection at which a reconfiguring manager is, if it is at one.
-fn reconfiguring_stage(
-    h: &[Entry],
+fn reconfiguring_stage<H: Looks>(
+    h: &H,
     m: &Name,
     config: &Config,
     now: &NewestConfig,
     found: &GreatestValue,
 ) -> Option<Stage>
     requires { now.now.generation < 2 ^ 64 - 1 }
-    ensures { result ≡ find (λ s. not (words.is_enough (reverse h.now) m.now s))
+    ensures { result ≡ find (λ s. not (words.is_enough (H.past h.now) m.now s))
         (raised.later_stages config.now now.now found.now) }
 {
     let same = Op::PutData {
@@ -266,8 +268,8 @@ fn reconfiguring_stage(
 }
 
 /// The stage at which a manager is: the first that is not enough, and none at its last number.
-pub fn current_stage(h: &[Entry], first: &Config, m: &Name, kind: &Kind) -> Option<Stage>
-    ensures { result ≡ words.stage (reverse h.now) first.now m.now kind.now }
+pub fn current_stage<H: Looks>(h: &H, first: &Config, m: &Name, kind: &Kind) -> Option<Stage>
+    ensures { result ≡ words.stage (H.past h.now) first.now m.now kind.now }
 {
     let now = newest(h, first, m);
     let found = greatest(h, m);
@@ -296,15 +298,15 @@ pub fn current_stage(h: &[Entry], first: &Config, m: &Name, kind: &Kind) -> Opti
 }
 
 /// Whether a manager is complete: each of its stages is enough, and it is not at its last number.
-pub fn is_complete(h: &[Entry], first: &Config, m: &Name, kind: &Kind) -> bool
-    ensures { result ≡ words.is_complete (reverse h.now) first.now m.now kind.now }
+pub fn is_complete<H: Looks>(h: &H, first: &Config, m: &Name, kind: &Kind) -> bool
+    ensures { result ≡ words.is_complete (H.past h.now) first.now m.now kind.now }
 {
     !at_last_number(h, first, m, kind) && current_stage(h, first, m, kind).is_none()
 }
 
 /// The copy that is asked next: the least with votes that was not asked in the stage.
-pub fn next_copy(h: &[Entry], m: &Name, stage: &Stage) -> Option<u8>
-    ensures { result ≡ words.next_copy (reverse h.now) m.now stage.now }
+pub fn next_copy<H: Looks>(h: &H, m: &Name, stage: &Stage) -> Option<u8>
+    ensures { result ≡ words.next_copy (H.past h.now) m.now stage.now }
 {
     for copy in 0..16 {
         if stage.config.votes(copy) > 0 && ask_at(h, m, stage.phase, copy).is_none() {
@@ -315,8 +317,8 @@ pub fn next_copy(h: &[Entry], m: &Name, stage: &Stage) -> Option<u8>
 }
 
 /// Whether a manager has failed at its stage: no copy is left to ask, and no access that was asked is open.
-pub fn has_failed(h: &[Entry], m: &Name, stage: &Stage) -> bool
-    ensures { IsTrue result ↔ words.HasFailed (reverse h.now) m.now stage.now }
+pub fn has_failed<H: Looks>(h: &H, m: &Name, stage: &Stage) -> bool
+    ensures { IsTrue result ↔ words.HasFailed (H.past h.now) m.now stage.now }
 {
     next_copy(h, m, stage).is_none() && waiting(h, m).is_none()
 }

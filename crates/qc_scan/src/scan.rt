@@ -103,7 +103,8 @@ impl Given {
     }
 }
 
-fn start_in(e: &Entry, n: &Name) -> Option<Begun>
+/// The start of a name, where the entry is it.
+pub fn start_in(e: &Entry, n: &Name) -> Option<Begun>
     ensures { result ≡ words.start_in n.now e.now.seat e.now.event }
 {
     match &e.event {
@@ -122,7 +123,8 @@ pub fn start(h: &[Entry], n: &Name) -> Option<Begun>
     h.iter().find_map(|e| start_in(e, n))
 }
 
-fn end_in(e: &Entry, n: &Name) -> Option<How>
+/// How a name ended, where the entry is its end.
+pub fn end_in(e: &Entry, n: &Name) -> Option<How>
     ensures { result ≡ words.end_in n.now e.now.event }
 {
     match &e.event {
@@ -154,7 +156,8 @@ pub fn is_ready(h: &[Entry], n: &Name) -> bool
     h.iter().find_map(|e| ready_in(e, n)).is_some()
 }
 
-fn ask_in(e: &Entry, n: &Name) -> Option<Request>
+/// The request of an access, where the entry is it.
+pub fn ask_in(e: &Entry, n: &Name) -> Option<Request>
     ensures { result ≡ words.ask_in n.now e.now.seat e.now.event }
 {
     match &e.event {
@@ -173,7 +176,8 @@ pub fn asked(h: &[Entry], n: &Name) -> Option<Request>
     h.iter().find_map(|e| ask_in(e, n))
 }
 
-fn gone_in(e: &Entry, n: &Name) -> Option<Why>
+/// Why an access got no answer, where the entry says so.
+pub fn gone_in(e: &Entry, n: &Name) -> Option<Why>
     ensures { result ≡ words.gone_in n.now e.now.event }
 {
     match &e.event {
@@ -189,7 +193,8 @@ pub fn gone(h: &[Entry], n: &Name) -> Option<Why>
     h.iter().find_map(|e| gone_in(e, n))
 }
 
-fn grant_in(e: &Entry, n: &Name) -> Option<Given>
+/// The grant of an access, where the entry is it.
+pub fn grant_in(e: &Entry, n: &Name) -> Option<Given>
     ensures { result ≡ words.grant_in n.now e.now.event }
 {
     match &e.event {
@@ -208,7 +213,8 @@ pub fn granted(h: &[Entry], n: &Name) -> Option<Given>
     h.iter().find_map(|e| grant_in(e, n))
 }
 
-fn refusal_in(e: &Entry, n: &Name) -> Option<Refusal>
+/// The refusal of an access, where the entry is it.
+pub fn refusal_in(e: &Entry, n: &Name) -> Option<Refusal>
     ensures { result ≡ words.refusal_in n.now e.now.event }
 {
     match &e.event {

@@ -1,12 +1,38 @@
 //! What some entry of a history tells. None of these calls takes memory.
-ghost use Rattle.std.specs.Prelude.{◌≡◌, ◌==◌, ◌↔◌, ◌&&◌, false, nat_le, IsTrue, reverse};
+ghost use Rattle.std.specs.Prelude.{◌≡◌, ◌==◌, ◌↔◌, ◌&&◌, false, nat_le, IsTrue, Some, reverse};
 ghost use Rattle.std.specs.Option.{option_map_or};
+ghost use Rattle.qc_event.specs.declared.event.How.TheVariants.{Abort};
+ghost use Rattle.qc_event.specs.History as history;
 ghost use Rattle.qc_event.specs.Requests as requests;
+ghost use Rattle.qc_event.specs.Standing as standing;
 ghost use Rattle.qc_event.specs.Users as words;
 ghost use Rattle.qc_scan.specs.Children as children;
 
-use crate::standing::{is_aborted_for, is_child, is_started_manager};
-use qc_event::{Cause, Entry, Event, Name, Why};
+use crate::same::same_cause;
+use crate::scan::{end, start};
+use crate::standing::{is_child, is_manager};
+use qc_event::{Cause, Entry, Event, How, Name, Why};
+
+// Whether a name was started as a manager.
+fn is_started_manager(h: &[Entry], n: &Name) -> bool
+    ensures { IsTrue result
+        ↔ standing.Started (reverse h.now) n.now (λ b. standing.IsManager b.kind) }
+{
+    match start(h, n) {
+        Some(b) => is_manager(&b.kind()),
+        None => false,
+    }
+}
+
+// Whether a name ended by an abort with a cause.
+fn is_aborted_for(h: &[Entry], n: &Name, cause: &Cause) -> bool
+    ensures { IsTrue result ↔ (history.end (reverse h.now) n.now ≡ Some (Abort cause.now)) }
+{
+    match end(h, n) {
+        Some(How::Abort(c)) => same_cause(&c, cause),
+        _ => false,
+    }
+}
 
 fn aborts_child(h: &[Entry], n: &Name, cause: &Cause, e: &Entry) -> bool
     ensures { IsTrue result ↔ children.AbortsChild (reverse h.now) n.now cause.now e.now.event }

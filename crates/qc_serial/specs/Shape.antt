@@ -1,5 +1,7 @@
 -- The serial machine without its values, and the values alone.
-use Rattle.std.specs.Prelude.{ℕ, Bool, IsTrue, nat_lt, List, [], ◌∷◌, length, slice_set}
+use Rattle.std.specs.Prelude.{ℕ, Bool, true, IsTrue, nat_lt, List, [], ◌∷◌, length, slice_set, Option, None, Some, if◌then◌else◌}
+use Rattle.std.proofs.Common.{suc}
+use Rattle.std.specs.Option.{option_map}
 use Rattle.qc_serial.specs.declared.event.SerialEvent.{SerialEvent}
 use Rattle.qc_serial.specs.declared.event.SerialEvent.TheVariants.{Read, Write}
 use Rattle.qc_serial.specs.Machine.{State, may_begin, has_value, allows, next}
@@ -27,3 +29,19 @@ abbrev pub after : List ℕ → List SerialEvent → List ℕ
 after values [] = values
 after values (Write n rec value ∷ es) = after (slice_set values rec value) es
 after values (e ∷ es) = after values es
+
+-- whether an event that reads finds its value, and one that writes its record
+abbrev pub finds : List ℕ → SerialEvent → Bool
+finds values (Read n rec value) = has_value values rec value
+finds values (Write n rec value) = nat_lt rec (length values)
+finds values e = true
+
+-- the values after an event
+abbrev pub kept : List ℕ → SerialEvent → List ℕ
+kept values (Write n rec value) = slice_set values rec value
+kept values e = values
+
+-- the place of the first event that does not find what it reads or writes
+abbrev pub first_unfound : List ℕ → List SerialEvent → Option ℕ
+first_unfound values [] = None
+first_unfound values (e ∷ es) = if finds values e then option_map (λ k. suc k) (first_unfound (kept values e) es) else Some 0

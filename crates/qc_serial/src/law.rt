@@ -6,7 +6,8 @@ ghost use Rattle.qc_event.specs.History.{Past, Name, Given, grants};
 ghost use Rattle.qc_event.specs.Base.{Setting, start_tuple};
 ghost use Rattle.qc_event.specs.Legal.{Legal};
 ghost use Rattle.qc_event.specs.Seen.{changed_by};
-ghost use Rattle.qc_serial.specs.Shape.{Reads};
+ghost use Rattle.qc_serial.specs.Machine.{begin, first_refused};
+ghost use Rattle.qc_serial.specs.Shape.{Reads, first_unfound};
 ghost use Rattle.qc_serial.specs.Serial.{IsSerialFor, IsUserOf};
 ghost use Rattle.qc_serial.specs.Visible.{served_order, left_at, Finds, is_visible, IsVisible, KeepsTurns};
 ghost use Rattle.qc_serial.specs.Walk.{serialise, walk};
@@ -19,6 +20,16 @@ pub fn serial_where_reads_agree()
     ensures { (setting : Setting) (values : List ℕ) (past : Past) (t : Name) → Legal setting past
         → IsUserOf past t
         → dead past t ≡ None → Reads values (serialise past t) → IsSerialFor values past t }
+{}
+
+/// In a legal history the serial machine refuses the serial order of such a transaction, where it does, first at a read
+/// that does not find its value, or at a write of no record: how names stand is never in the way.
+pub fn refused_for_values_alone()
+    ensures { (setting : Setting) (values : List ℕ) (past : Past) (t : Name) → Legal setting past
+        → IsUserOf past t
+        → dead past t ≡ None
+        → first_refused (begin values) (serialise past t)
+        ≡ first_unfound values (serialise past t) }
 {}
 
 /// The walk of a transaction is taken at its commit. What its children did is settled then: in a legal history

@@ -18,6 +18,7 @@ use Rattle.qc_desk.specs.declared.view.View.{View}
 use Rattle.qc_desk.specs.Known.{IsKnown}
 use Rattle.qc_desk.specs.Rules.{Has, numbers}
 use Rattle.qc_desk.proofs.Having.{has_none}
+use Rattle.qc_script.specs.Calls.{MeetsLink}
 use Rattle.qc_script.specs.Client.{Client, HasJoined, is_own, mine}
 use Rattle.qc_script.specs.Plan.{SessionPlan}
 use Rattle.qc_session.specs.Clients.{client_for, client_of, kin_of}
@@ -105,6 +106,14 @@ module _ (setting : Setting) (epoch patience session : ℕ) (plan : SessionPlan)
 
   alone : numbers given ≡ given.number ∷ []
   alone = ap (λ ks. given.number ∷ ks) kinless
+
+  -- a client that has asked nothing meets the fates of its link
+  pub meets_at_start : (asked : Client) (seen : Past) → asked ≡ c → seen ≡ given.seen → MeetsLink (record { client = asked; seen = seen })
+  meets_at_start asked seen same same_seen =
+      subst (λ (x : Client). MeetsLink (record { client = x; seen = seen })) (sym same)
+      (subst (λ h. IsTrue (list_all (λ seat. meets_fates seat (net_of patience plan) h) (given.number ∷ kin_of given))) (sym same_seen)
+      (subst (λ ks. IsTrue (list_all (λ seat. meets_fates seat (net_of patience plan) given.seen) (given.number ∷ ks))) (sym kinless)
+      (ap (λ b. b && true) (met_none given.number plan.fates plan.hold patience given.seen new.none))))
 
   -- it got no memory to begin with
   pub none_ran : IsKnown setting given → RanOne setting epoch patience session plan given (Err Memory) given

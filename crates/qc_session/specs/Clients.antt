@@ -7,7 +7,7 @@ use Rattle.qc_event.specs.History.{Past, Name}
 use Rattle.qc_interp.specs.FollowsScript.{net_of}
 use Rattle.qc_net.specs.Messages.{Net}
 use Rattle.qc_net.specs.Plan.{Plan}
-use Rattle.qc_desk.specs.declared.view.View.{ClientView as Pass}
+use Rattle.qc_desk.specs.declared.view.View.{View as Pass}
 use Rattle.qc_desk.specs.Entries.{entries_of}
 use Rattle.qc_desk.specs.Rules.{Has}
 use Rattle.qc_script.specs.Client.{Client, ClientView}

@@ -8,8 +8,9 @@ use Rattle.qc_event.specs.declared.event.How.{How}
 use Rattle.qc_event.specs.declared.event.How.TheVariants.{Commit, Abort}
 use Rattle.qc_event.specs.declared.event.Kind.{Kind}
 use Rattle.qc_event.specs.declared.event.Kind.TheVariants as kind
-use Rattle.qc_event.specs.History.{Past, Name, children, limit}
+use Rattle.qc_event.specs.History.{Past, Name, children}
 use Rattle.qc_event.specs.Standing.{IsOrphanOf}
+use Rattle.qc_event.specs.Wants.{IsWant}
 use Rattle.qc_managers.specs.Carrying.{entry}
 use Rattle.qc_desk.specs.declared.view.View.{View}
 use Rattle.qc_desk.specs.Entries.{IsSince}

@@ -26,12 +26,12 @@ fn index_of(alloc: Global, h: &[Entry]) -> Result<Index, Wrong> {
 
 // What was looked up, and whether a scan and an index answered it alike.
 #[derive(Drop)]
-struct Looks {
+struct Compared {
     count: usize,
     alike: bool,
 }
 
-impl Looks {
+impl Compared {
     fn note(&mut self, alike: bool) {
         self.count = self.count.saturating_add(1);
         self.alike = self.alike && alike;
@@ -55,7 +55,7 @@ impl Looks {
 /// The history entry by entry, and after each how every name stands that has started: how many entries and looks
 /// that are, and whether a scan and an index answer them alike.
 pub fn looks(alloc: Global, h: &[Entry]) -> Result<Told, Wrong> {
-    let mut looks = Looks {
+    let mut looks = Compared {
         count: h.len(),
         alike: true,
     };
@@ -63,7 +63,7 @@ pub fn looks(alloc: Global, h: &[Entry]) -> Result<Told, Wrong> {
         let past = &h[..place + 1];
         looks.compare_all(past, &index_of(alloc, past)?);
     }
-    let Looks { count, alike } = looks;
+    let Compared { count, alike } = looks;
     Ok(Told::Looks(count, alike))
 }
 

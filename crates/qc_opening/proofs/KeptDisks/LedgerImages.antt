@@ -75,7 +75,7 @@ module _ (setting : Setting) (past : Past) (epoch : ℕ) (legal : Legal setting 
     pub record Tells : Type 0 where
       pub more : List Logged
       pub next : AreNext past more
-      pub few : length more ≤ 1
+      pub at_most_one : length more ≤ 1
       pub is_image : IsLedgerImage table epoch logs.tops (logged past ++ more) image
 
     -- the records of the mounting, and those of tops
@@ -100,7 +100,7 @@ module _ (setting : Setting) (past : Past) (epoch : ℕ) (legal : Legal setting 
     tells tops more same next one has = record {
       more = map (logged_as past) more;
       next = are_next past more next one;
-      few = subst (λ n. n ≤ 1) (sym (length-map more (logged_as past))) one;
+      at_most_one = subst (λ n. n ≤ 1) (sym (length-map more (logged_as past))) one;
       is_image = record {
         old = m.old;
         made_once = m.made_once;

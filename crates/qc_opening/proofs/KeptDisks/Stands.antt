@@ -123,11 +123,11 @@ module _ (table : Table) (told : ℕ → Option (List ℕ)) (records : ℕ → L
           beside = beside;
           as_many = as_many;
           ledger = l.is_image;
-          copies = λ copy there. subst (λ gs. IsCopyImage table copy gs (get_or images (copy + 1) [])) (sym (now_at copy there)) ((told_at copy).1 there).1.1.1;
+          copies = λ copy there. subst (λ gs. IsCopyImage table copy gs (get_or images (copy + 1) [])) (sym (now_at copy there)) ((told_at copy).1 there).3;
         };
-        few_tops = l.few;
-        few_grants = λ copy there. ((told_at copy).1 there).1.0;
-        asked = λ copy there. ((told_at copy).1 there).1.1.0;
+        few_tops = l.at_most_one;
+        few_grants = λ copy there. ((told_at copy).1 there).1;
+        asked = λ copy there. ((told_at copy).1 there).2;
       }
 
   -- the images of disks that keep a legal history stand beside it

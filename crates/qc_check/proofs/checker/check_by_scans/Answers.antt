@@ -10,6 +10,6 @@ returns-then-not-is_allowed-clause-illegal c =
     let e = c.index-h-place.result in
     λ legal.
     let allowed = allowed_at setting c.args.h.now c.loop-place.place e c.loop-place-test.true c.index-h-place.is legal in
-    let told = c.is_allowed.ensures.1 (subst (λ (s : Setting). Allowed s (reverse (take c.loop-place.place c.args.h.now)) e) (sym c.new-setting.ensures) allowed) in
+    let told = c.is_allowed.ensures.allowed.1 (subst (λ (s : Setting). Allowed s (reverse (take c.loop-place.place c.args.h.now)) e) (sym c.new-setting.ensures) allowed) in
     let clash : false ≡ true = sym c.if-not-is_allowed.true ∙ told in
     absurd cc

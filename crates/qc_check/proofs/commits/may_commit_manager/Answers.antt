@@ -1,4 +1,4 @@
-use Rattle.std.proofs.Common.{◌≡◌, ℕ, reverse, sym, ◌∙◌, subst}
+use Rattle.std.proofs.Common.{◌≡◌, ℕ, sym, ◌∙◌, subst}
 use Rattle.std.specs.Prelude.{IsTrue}
 use Rattle.qc_event.specs.declared.event.Answer.{Answer}
 use Rattle.qc_event.specs.declared.event.Kind.{Kind}
@@ -30,22 +30,22 @@ module _ (setting : Setting) (past : Past) (seat : ℕ) (n : Name) (m : Begun) (
   }
 
 pub returns-then-not-is_free_to_commit : goal.returns-then-not-is_free_to_commit
-returns-then-not-is_free_to_commit c = (
+returns-then-not-is_free_to_commit g c = (
   λ e. absurd cc,
-  λ may. sym c.if-not-is_free_to_commit.true ∙ c.is_free_to_commit.ensures.1 (free c.args.setting.now (reverse c.args.h.now) c.args.seat c.args.n.now c.args.begun.now c.args.given.now may),
+  λ may. sym c.if-not-is_free_to_commit.true ∙ c.is_free_to_commit.ensures.1 (free c.args.setting.now (g.H.Looks.past c.args.h.now) c.args.seat c.args.n.now c.args.begun.now c.args.given.now may),
 )
 
 pub returns-then-not-is_done : goal.returns-then-not-is_done
-returns-then-not-is_done c =
-    let complete = IsComplete c.args.setting.now (reverse c.args.h.now) c.args.seat c.args.n.now c.args.begun.now c.args.given.now in (
+returns-then-not-is_done g c =
+    let complete = IsComplete c.args.setting.now (g.H.Looks.past c.args.h.now) c.args.seat c.args.n.now c.args.begun.now c.args.given.now in (
       λ e. absurd cc,
       λ may. sym c.if-not-is_done.true ∙ c.is_done.ensures ∙ subst complete (sym c.kind-kind.ensures) may.complete,
     )
 
 pub returns : goal.returns
-returns c =
+returns g c =
     let setting = c.args.setting.now in
-    let past = reverse c.args.h.now in
+    let past = g.H.Looks.past c.args.h.now in
     let n = c.args.n.now in
     let m = c.args.begun.now in
     let given = c.args.given.now in

@@ -1,4 +1,4 @@
-use Rattle.std.proofs.Common.{ℕ, reverse, sym, ◌∙◌, subst}
+use Rattle.std.proofs.Common.{ℕ, sym, ◌∙◌, subst}
 use Rattle.qc_names.specs.Name as name
 use Rattle.qc_event.specs.declared.event.Ask.{Ask}
 use Rattle.qc_event.specs.Base.{Setting}
@@ -35,15 +35,15 @@ module _ (setting : Setting) (past : Past) (seat : ℕ) (ask : Ask) where
   }
 
 pub returns-then-not-is_free_to_ask : goal.returns-then-not-is_free_to_ask
-returns-then-not-is_free_to_ask c = (
+returns-then-not-is_free_to_ask g c = (
   λ e. absurd cc,
-  λ may. sym c.if-not-is_free_to_ask.true ∙ c.is_free_to_ask.ensures.1 (free c.args.setting.now (reverse c.args.h.now) c.args.seat c.args.ask.now may),
+  λ may. sym c.if-not-is_free_to_ask.true ∙ c.is_free_to_ask.ensures.1 (free c.args.setting.now (g.H.Looks.past c.args.h.now) c.args.seat c.args.ask.now may),
 )
 
 pub returns : goal.returns
-returns c =
+returns g c =
     let setting = c.args.setting.now in
-    let past = reverse c.args.h.now in
+    let past = g.H.Looks.past c.args.h.now in
     let ask = c.args.ask.now in
     let next = AsksNext setting past c.args.seat ask in (
       λ e. whole setting past c.args.seat ask (c.is_free_to_ask.ensures.0 c.if-not-is_free_to_ask.false) (subst next c.front.ensures (c.is_asked_next.ensures.0 e)),

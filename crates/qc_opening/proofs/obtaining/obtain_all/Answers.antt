@@ -84,7 +84,7 @@ loop-which-preserved g c =
       size = omega (arith, ap length more, length-append c.loop-which.disks.items (c.in-Ok-obtain.disk ∷ []), so_far.size);
       room = omega (arith, c.push_reserved.ensures.capacity, so_far.room);
       others = λ p n from. alike_twice _ _ _ p n (c.obtain.ensures.others p n (λ same. omega (arith, from, same))) (so_far.others p n (omega (arith, from)));
-      gave = gave_more (g.H.Shop.view c.args.shop.now).gave (g.H.Shop.view c.loop-which.shop).gave (g.H.Shop.view c.obtain.new.shop).gave c.args.place.now c.loop-which.which so_far.gave c.obtain.ensures.gave;
+      gave = gave_more (g.H.Shop.view c.args.shop.now).gave _ _ c.args.place.now c.loop-which.which so_far.gave c.in-Ok-obtain.ensures.gave;
       later = omega (arith, so_far.later, c.obtain.ensures.cause.later);
     }
 

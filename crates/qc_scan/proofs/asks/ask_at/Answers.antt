@@ -1,24 +1,29 @@
-use Rattle.std.proofs.Common.{◌==◌, rules, tests, sym, ap, ◌∙◌}
-use Rattle.std.specs.Prelude.{find, filter}
-use Rattle.std.proofs.lemmas.Iterator.{YieldsList-from_slice}
-use Rattle.std.proofs.lemmas.Iterator.Consumers.{YieldsList-at, YieldsList-from_filter, YieldsList-from_filter_map}
-use Rattle.std.proofs.lemmas.Iterator.Search.{find_from_yields_List}
+use Rattle.std.proofs.Common.{◌==◌, ◌&&◌, sym, ◌∙◌, arith}
 use Rattle.qc_event.specs.declared.event.Ask.{Ask}
-use Rattle.qc_event.specs.declared.event.Entry.{Entry}
-use Rattle.qc_event.specs.History as history
-use Rattle.qc_event.specs.Manager as words
-use Rattle.qc_scan.proofs.Everyone.{every_is, option_itself}
+use Rattle.qc_event.specs.History.{asks}
+use Rattle.qc_event.specs.Manager.{is_phase, phase_of}
+use Rattle.qc_scan.proofs.Search.{here, passed, nowhere, find_filter}
 use Rattle.qc_scan.proofs.asks.ask_at.Goals as goal
 
+pub returns-then-is_ask_to : goal.returns-then-is_ask_to
+returns-then-is_ask_to g c =
+    let past = g.H.Looks.past c.args.h.now in
+    let test = λ (ask : Ask). is_phase c.args.phase (phase_of ask.op) && (ask.copy == c.args.copy) in
+    let all = asks past c.args.m.now in
+    here test all c.loop-k.k c.ask-ask.result c.ask-ask.ensures c.loop-k.invariant (sym c.is_ask_to.ensures ∙ c.if-is_ask_to.true)
+    ∙ sym (find_filter (λ (ask : Ask). is_phase c.args.phase (phase_of ask.op)) (λ (ask : Ask). ask.copy == c.args.copy) all)
+
+pub loop-k-preserved : goal.loop-k-preserved
+loop-k-preserved g c =
+    let past = g.H.Looks.past c.args.h.now in
+    let test = λ (ask : Ask). is_phase c.args.phase (phase_of ask.op) && (ask.copy == c.args.copy) in
+    let all = asks past c.args.m.now in
+    passed test all c.loop-k.k c.ask-ask.result c.ask-ask.ensures c.loop-k.invariant (sym c.is_ask_to.ensures ∙ c.if-is_ask_to.false)
+
 pub returns : goal.returns
-returns c =
-    let asks = λ (e : Entry). history.ask_below c.args.m.now e.event in
-    let in_phase = λ (ask : Ask). words.is_phase c.args.phase (words.phase_of ask.op) in
-    let test = λ (ask : Ask). ask.copy == c.args.copy in
-    option_itself c.find.result
-    ∙ find_from_yields_List test _ _ c.find.result c.find.ensures.ran
-    (YieldsList-from_filter _ in_phase
-    (YieldsList-at c.filter.ensures.source (YieldsList-from_filter_map _ asks (YieldsList-from_slice c.args.h.now cc) c.filter_map.ensures.closure (λ x r q k. search (rules, tests))))
-    c.filter.ensures.closure (λ x b q k. search (rules, tests)))
-    (λ x b q k. search (rules, tests))
-    ∙ sym (ap (λ all. find test (filter in_phase all)) (every_is asks c.args.h.now))
+returns g c =
+    let past = g.H.Looks.past c.args.h.now in
+    let test = λ (ask : Ask). is_phase c.args.phase (phase_of ask.op) && (ask.copy == c.args.copy) in
+    let all = asks past c.args.m.now in
+    nowhere test all c.loop-k.k c.loop-k.invariant (omega (arith, c.loop-k-test.false, c.asks-k-end.ensures))
+    ∙ sym (find_filter (λ (ask : Ask). is_phase c.args.phase (phase_of ask.op)) (λ (ask : Ask). ask.copy == c.args.copy) all)

@@ -1,26 +1,30 @@
-use Rattle.std.proofs.Common.{◌==◌, ◌&&◌, rules, tests, reverse, sym, ap, ◌∙◌}
-use Rattle.std.specs.Prelude.{filter, find, is_some}
-use Rattle.std.proofs.lemmas.Iterator.{YieldsList-from_slice}
-use Rattle.std.proofs.lemmas.Iterator.Consumers.{YieldsList-at, YieldsList-from_filter, YieldsList-from_filter_map}
-use Rattle.std.proofs.lemmas.Iterator.Search.{find_from_yields_List}
+use Rattle.std.proofs.Common.{◌==◌, ◌&&◌, sym, ◌∙◌, arith}
+use Rattle.std.specs.Prelude.{is_some}
 use Rattle.qc_event.specs.declared.event.Ask.{Ask}
-use Rattle.qc_event.specs.declared.event.Entry.{Entry}
-use Rattle.qc_event.specs.History as history
-use Rattle.qc_event.specs.Manager as words
-use Rattle.qc_scan.proofs.Everyone.{every_is, option_itself, any_is_found}
+use Rattle.qc_event.specs.History.{asks}
+use Rattle.qc_event.specs.Manager.{is_phase, phase_of, reply}
+use Rattle.qc_scan.proofs.Search.{any_here, any_passed, any_nowhere, any_filter}
 use Rattle.qc_scan.proofs.asks.has_replied.Goals as goal
 
+pub returns-then-has_reply : goal.returns-then-has_reply
+returns-then-has_reply g c =
+    let past = g.H.Looks.past c.args.h.now in
+    let test = λ (ask : Ask). is_phase c.args.phase (phase_of ask.op) && ((ask.copy == c.args.copy) && is_some (reply past ask.access)) in
+    let all = asks past c.args.m.now in
+    any_here test all c.loop-k.k c.ask-ask.result c.ask-ask.ensures c.loop-k.invariant (sym c.has_reply.ensures ∙ c.if-has_reply.true)
+    ∙ sym (any_filter (λ (ask : Ask). is_phase c.args.phase (phase_of ask.op)) (λ (ask : Ask). (ask.copy == c.args.copy) && is_some (reply past ask.access)) all)
+
+pub loop-k-preserved : goal.loop-k-preserved
+loop-k-preserved g c =
+    let past = g.H.Looks.past c.args.h.now in
+    let test = λ (ask : Ask). is_phase c.args.phase (phase_of ask.op) && ((ask.copy == c.args.copy) && is_some (reply past ask.access)) in
+    let all = asks past c.args.m.now in
+    any_passed test all c.loop-k.k c.ask-ask.result c.ask-ask.ensures c.loop-k.invariant (sym c.has_reply.ensures ∙ c.if-has_reply.false)
+
 pub returns : goal.returns
-returns c =
-    let asks = λ (e : Entry). history.ask_below c.args.m.now e.event in
-    let in_phase = λ (ask : Ask). words.is_phase c.args.phase (words.phase_of ask.op) in
-    let test = λ (ask : Ask). (ask.copy == c.args.copy) && is_some (words.reply (reverse c.args.h.now) ask.access) in
-    c.is_some.ensures
-    ∙ ap is_some (option_itself c.find.result
-    ∙ find_from_yields_List test _ _ c.find.result c.find.ensures.ran
-    (YieldsList-from_filter _ in_phase
-    (YieldsList-at c.filter.ensures.source (YieldsList-from_filter_map _ asks (YieldsList-from_slice c.args.h.now cc) c.filter_map.ensures.closure (λ x r q k. search (rules, tests))))
-    c.filter.ensures.closure (λ x b q k. search (rules, tests)))
-    (λ x b q k. search (rules, tests))
-    ∙ sym (ap (λ all. find test (filter in_phase all)) (every_is asks c.args.h.now)))
-    ∙ any_is_found test (filter in_phase (history.asks (reverse c.args.h.now) c.args.m.now))
+returns g c =
+    let past = g.H.Looks.past c.args.h.now in
+    let test = λ (ask : Ask). is_phase c.args.phase (phase_of ask.op) && ((ask.copy == c.args.copy) && is_some (reply past ask.access)) in
+    let all = asks past c.args.m.now in
+    any_nowhere test all c.loop-k.k c.loop-k.invariant (omega (arith, c.loop-k-test.false, c.asks-k-end.ensures))
+    ∙ sym (any_filter (λ (ask : Ask). is_phase c.args.phase (phase_of ask.op)) (λ (ask : Ask). (ask.copy == c.args.copy) && is_some (reply past ask.access)) all)

@@ -1,4 +1,4 @@
-use Rattle.std.proofs.Common.{◌≡◌, reverse, sym, ap, ◌∙◌, subst}
+use Rattle.std.proofs.Common.{◌≡◌, sym, ap, ◌∙◌, subst}
 use Rattle.std.specs.Prelude.{if◌then◌else◌}
 use Rattle.qc_config.specs.Config.{holds_read, holds_write}
 use Rattle.qc_event.specs.Manager as words
@@ -6,8 +6,8 @@ use Rattle.qc_event.proofs.Booleans.{same_truth}
 use Rattle.qc_scan.proofs.manager.is_enough.Goals as goal
 
 pub returns-then-stage : goal.returns-then-stage
-returns-then-stage c =
-    let past = reverse c.args.h.now in
+returns-then-stage g c =
+    let past = g.H.Looks.past c.args.h.now in
     let m = c.args.m.now in
     let s = c.stage.inside in
     let copies = words.replied past m s.phase in
@@ -16,8 +16,8 @@ returns-then-stage c =
     ∙ sym (ap (λ b. if b then holds_write s.config copies else holds_read s.config copies) c.if-stage.true))
 
 pub returns-else-stage : goal.returns-else-stage
-returns-else-stage c =
-    let past = reverse c.args.h.now in
+returns-else-stage g c =
+    let past = g.H.Looks.past c.args.h.now in
     let m = c.args.m.now in
     let s = c.stage.inside in
     let copies = words.replied past m s.phase in

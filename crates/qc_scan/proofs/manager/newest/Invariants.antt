@@ -1,9 +1,12 @@
-use Rattle.std.proofs.Common.{◌≡◌, reverse, take}
-use Rattle.std.specs.Prelude.{fold, filter_map}
-use Rattle.qc_event.specs.Manager.{newer}
-use Rattle.qc_scan.specs.Raised.{reply_in}
+use Rattle.std.proofs.Common.{◌≡◌, drop}
+use Rattle.std.specs.Prelude.{fold}
+use Rattle.qc_event.specs.History.{asks}
+use Rattle.qc_event.specs.Manager.{newer, newest}
+use Rattle.qc_scan.specs.Raised.{replies_to}
 use Rattle.qc_scan.proofs.manager.newest.Given as goal
 
--- the newest of what the entries so far tell
-abbrev pub invariant-loop-e : goal.invariant-loop-e
-invariant-loop-e l = l.best ≡ fold newer (record { generation = 0; config = l.first }) (filter_map (reply_in (reverse l.h) l.m) (take l.e-index l.h))
+-- the newest of what the requests so far replied
+abbrev pub invariant-loop-k : goal.invariant-loop-k
+invariant-loop-k g l =
+    let past = g.H.Looks.past l.h in
+    newest past l.first l.m ≡ fold newer l.best (replies_to past (drop l.k (asks past l.m)))

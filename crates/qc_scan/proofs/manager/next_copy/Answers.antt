@@ -1,4 +1,4 @@
-use Rattle.std.proofs.Common.{◌≡◌, ℕ, ◌+◌, ◌<◌, ◌&&◌, true, false, nat_lt, reverse, refl, sym, ap, ◌∙◌, arith, subst}
+use Rattle.std.proofs.Common.{◌≡◌, ℕ, ◌+◌, ◌<◌, ◌&&◌, true, false, nat_lt, refl, sym, ap, ◌∙◌, arith, subst}
 use Rattle.std.specs.Prelude.{Option, None, Some, is_none, is_some}
 use Rattle.std.proofs.lemmas.Bool.{and_from}
 use Rattle.std.proofs.lemmas.Bool.Decides.{nat_tests}
@@ -15,8 +15,8 @@ some_votes : (n : ℕ) → 0 < n → nat_lt 0 n ≡ true
 some_votes n h = grind (arith, nat_tests)
 
 pub returns-then-is_none : goal.returns-then-is_none
-returns-then-is_none c =
-    let past = reverse c.args.h.now in
+returns-then-is_none g c =
+    let past = g.H.Looks.past c.args.h.now in
     let copy = c.loop-copy.copy in
     let own = λ (s : words.Stage). λ (j : ℕ). nat_lt 0 (votes_of s.config j) && is_none (words.ask_at past c.args.m.now s.phase j) in
     let votes : 0 < votes_of c.stage.inside.config copy = subst (λ n. 0 < n) c.votes.ensures c.if-votes-gt0.true in

@@ -8,7 +8,6 @@ use Rattle.qc_net.specs.declared.courier.Courier.{Courier}
 use Rattle.qc_net.specs.declared.plan.PlanLink.{PlanLink}
 use Rattle.qc_net.specs.Plan.{starting}
 use Rattle.qc_net.specs.PlanLink.{plan_of}
-use Rattle.qc_desk.specs.Known.{IsKnown}
 use Rattle.qc_desk.specs.declared.view.View.{View}
 use Rattle.qc_desk.proofs.Known.{known_again}
 use Rattle.qc_script.specs.Client.{Client}
@@ -20,7 +19,7 @@ use Rattle.qc_session.specs.Session.{AreHigh, RanOne}
 use Rattle.qc_desk.specs.Rules.{numbers}
 use Rattle.qc_session.specs.Tidy.{AreTidy}
 use Rattle.qc_session.proofs.AtStart.{client_is}
-use Rattle.qc_session.proofs.Leaving.{none_ran, one_ran}
+use Rattle.qc_session.proofs.Leaving.{meets_at_start, none_ran, one_ran}
 use Rattle.qc_session.proofs.stage.run_client.Given.{Over}
 use Rattle.qc_session.proofs.stage.run_client.Goals as goal
 
@@ -30,6 +29,22 @@ returns-in-Err g c =
 
 pub new-requires : goal.new-requires
 new-requires g c = let held = c.requires.fits.some_hold in omega (arith, held)
+
+pub run_tops-ran-requires-clause-met : goal.run_tops-ran-requires-clause-met
+run_tops-ran-requires-clause-met g c κs within =
+    let setting = setting_of g.N.Store.table g.N.Store.base in
+    let client = c.new-client.result in
+    let line = c.new-client.ensures.line in
+    let told = plan_of (link_of client.line.courier) in
+    let same_pass : client.line.pass ≡ c.args.pass = ap (λ l. l.pass) line ∙ c.new-line.ensures.pass in
+    let same_plan : told ≡ starting c.in-Ok.fates.items c.args.session.now.hold =
+    ap (λ l. plan_of (link_of l.courier)) line ∙ ap (λ (k : Courier PlanLink). plan_of (link_of k)) c.new-line.ensures.courier ∙ ap plan_of c.new-courier.ensures.link ∙ c.new.ensures.plan in
+    let epoch = ap (λ l. l.system.now.desk.epoch) line ∙ ap (λ s. s.desk.epoch) c.new-line.ensures.system in
+    let patience = ap (λ l. l.patience) line ∙ c.new-line.ensures.patience in
+    meets_at_start setting c.args.system.now.desk.epoch c.args.script.now.patience c.args.number (plan_of_session c.args.session.now) c.args.pass c.requires.new _ client.line.pass.seen
+    (client_is setting client.root client.session c.args.number client.line.system.now.desk.epoch c.args.system.now.desk.epoch client.line.patience c.args.script.now.patience c.args.session.now.hold told c.in-Ok.fates.items c.args.session.now.fates.items client.line.pass c.args.pass
+    c.new-client.ensures.root c.new-client.ensures.session epoch same_plan c.in-Ok.ensures patience same_pass)
+    (ap (λ (v : View). v.seen) same_pass)
 
 module _ (g : Over) (c : goal.After-into_pass g) where
   abbrev setting : Setting
@@ -81,4 +96,4 @@ returns g c =
     c.run_tops-ran.ensures.turns
     (subst (λ (bodies : List Body). IfErr c.run_tops-ran.result (λ _. CutTops ran before back.seen (map numbered bodies))) c.as_slice.ensures.value c.run_tops-ran.ensures.cut)
     (search rules)
-    (subst (IsKnown (setting g c)) c.into_pass.ensures.pass (known_again (setting g c) tx.line.pass tx.line.known)))
+    (known_again (setting g c) tx.line.pass tx.line.known))

@@ -12,5 +12,5 @@ returns-in-Err c = refused (events.entry (format_1 c.args.copies)) c.loop.entrie
 
 pub loop-preserved : goal.loop-preserved
 loop-preserved c =
-    ap (λ (xs : List Entry). continued xs (times_taken (c.args.count - (c.loop.counter + 1)) (events.entry (format_1 c.args.copies)) c.entry.new.cursor.rest.now)) c.in_ok-append-in-Ok.ensures
+    ap (λ (xs : List Entry). continued xs (times_taken (c.args.count - (c.loop.counter + 1)) (events.entry (format_1 c.args.copies)) c.entry.new.cursor.rest.now)) c.in_ok-append-in-Ok.ensures.ok
     ∙ goes_on (events.entry (format_1 c.args.copies)) c.loop.entries.items c.args.count c.loop.counter c.loop.cursor.rest.now c.entry.new.cursor.rest.now c.in-Ok.entry _ c.loop-test.true c.in-Ok.ensures c.loop.invariant

@@ -1,0 +1,4 @@
+pub mod FirstTold
+pub mod Asking
+pub mod Tabling
+pub mod Depths

@@ -1,0 +1,17 @@
+use Rattle.std.proofs.Common.{reverse, sym, ap, ◌∙◌}
+use Rattle.std.specs.Prelude.{option_and_then}
+use Rattle.qc_event.specs.declared.event.Entry.{Entry}
+use Rattle.qc_event.specs.History.{ask_in}
+use Rattle.qc_looks.specs.Subjects.{asked_name}
+use Rattle.qc_looks.proofs.FirstTold.{first_asked}
+use Rattle.qc_looks.proofs.requests.Requests.asked.Goals as goal
+
+pub returns-in-Some : goal.returns-in-Some
+returns-in-Some c = λ setting kept names legal.
+    c.ask_in.ensures ∙ ap (option_and_then (λ (e : Entry). ask_in c.args.access.now e.seat e.event)) (sym c.in-Some.is ∙ c.first.ensures asked_name setting kept.asked names legal)
+    ∙ first_asked (reverse c.args.entries.now) c.args.access.now
+
+pub returns-in-None : goal.returns-in-None
+returns-in-None c = λ setting kept names legal.
+    ap (option_and_then (λ (e : Entry). ask_in c.args.access.now e.seat e.event)) (sym c.in-None.is ∙ c.first.ensures asked_name setting kept.asked names legal)
+    ∙ first_asked (reverse c.args.entries.now) c.args.access.now
