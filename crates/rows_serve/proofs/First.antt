@@ -28,7 +28,7 @@ use Rattle.qc_event.proofs.Options.{match_some, match_wider}
 use Rattle.qc_event.proofs.StillTold.{is_stays}
 use Rattle.qc_desk.specs.declared.refusal.DeskNo.{DeskNo}
 use Rattle.qc_desk.specs.declared.view.View.{View}
-use Rattle.qc_desk.specs.Calling.{Entered, EnteredAs}
+use Rattle.qc_desk.specs.Calling.{Entered, EnteredAs, StartsChild}
 use Rattle.qc_desk.specs.Consulting.{HasAsked}
 use Rattle.qc_desk.specs.Entries.{IsOlder, entry}
 use Rattle.qc_desk.specs.Own.{IsMine, MayAskOwn, MayReplyOwn}

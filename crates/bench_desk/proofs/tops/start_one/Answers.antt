@@ -13,4 +13,4 @@ returns-in-Ok-clause-started g c =
     let entered = c.in_ok-top.ensures.ok in
     let new = top_begun setting _ 0 0 c.args.pass.now c.start_top.new.pass top entered c.known.ensures.legal in
     let was = still_started c.args.pass.now.seen c.start_top.new.pass.seen c.args.tops.now.items (entered_as_later against_nothing (IsTop _ 0 0 top) c.args.pass.now c.start_top.new.pass entered) c.requires.started in
-    subst (AreStarted c.start_top.new.pass.seen) (sym c.in-Ok.ensures) (one_more c.start_top.new.pass.seen c.args.tops.now.items top was new)
+    subst (AreStarted c.start_top.new.pass.seen) (sym c.in-Ok.ensures.ok) (one_more c.start_top.new.pass.seen c.args.tops.now.items top was new)
