@@ -1,5 +1,5 @@
 -- Weighted voting: who has how many votes, and how many a reader and a writer need.
-use Rattle.std.specs.Prelude.{ℕ, ◌+◌, ◌<◌, ◌≤◌, Bool, if◌then◌else◌, ◌==◌, ◌||◌, nat_lt, nat_le, List, [], ◌∷◌, length, sum, slice_index_or, Option, None, Some}
+use Rattle.std.specs.Prelude.{ℕ, ◌≡◌, ◌+◌, ◌<◌, ◌≤◌, Bool, if◌then◌else◌, ◌==◌, ◌||◌, nat_lt, nat_le, List, [], ◌∷◌, length, sum, slice_index_or, Option, None, Some}
 use Rattle.qc_config.specs.declared.config.BadConfig.{BadConfig}
 use Rattle.qc_config.specs.declared.config.BadConfig.TheVariants.{Empty, Votes, Read, Write, NoOverlap}
 
@@ -47,3 +47,7 @@ fault votes read write =
     if (write == 0) || nat_lt (sum votes) write then Some Write else
     if nat_le (read + write) (sum votes) then Some NoOverlap else
     None
+
+-- a configuration of no votes at all, or one without a fault
+abbrev pub IsEmptyOrFaultless : Voting → Type 0
+IsEmptyOrFaultless c = 0 < length c.votes → fault c.votes c.read c.write ≡ None

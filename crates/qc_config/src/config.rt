@@ -43,13 +43,14 @@ pub struct Config {
 impl Model for Config {
     ghost use Rattle.std.specs.Prelude.{◌≡◌, ℕ, ◌-◌, ◌≤◌, List, ◌++◌, length, take, drop, replicate};
     ghost use Rattle.qc_config.specs.Padded.{front_padded, front_length};
-    ghost use Rattle.qc_config.specs.Config.{Voting};
+    ghost use Rattle.qc_config.specs.Config.{Voting, IsEmptyOrFaultless};
 
     ghost Value = { Voting };
 
     ghost view = { λ c. record { votes = take c.count c.votes; read = c.read; write = c.write } };
 
-    ghost invariant = { λ c. (c.count ≤ 16) × (length c.votes ≡ 16) × (drop c.count c.votes ≡ replicate (16 - c.count) 0) };
+    ghost invariant = { λ c. (c.count ≤ 16) × (length c.votes ≡ 16) × (drop c.count c.votes ≡ replicate (16 - c.count) 0)
+        × IsEmptyOrFaultless (record { votes = take c.count c.votes; read = c.read; write = c.write }) };
 
     ghost inverse = { λ v. record { votes = v.votes ++ replicate (16 - length v.votes) 0; count = length v.votes; read = v.read; write = v.write } };
 
@@ -154,6 +155,9 @@ impl Config {
     pub fn count(&self) -> usize
         ensures count { result ≡ length self.now.votes }
         ensures bounded { length self.now.votes ≤ 16 }
+
+        // Votes that were refused make no configuration.
+        ensures faultless { config.IsEmptyOrFaultless self.now }
     {
         self.count as usize
     }

@@ -7,4 +7,4 @@ use Rattle.qc_scan.proofs.same.same_copies.Goals as goal
 
 pub returns : goal.returns
 returns c =
-    slice_eq-Decides booleans_Decides c.args.a.now c.args.b.now c.eq.result (c.eq.ensures ∙ ap₂ (pointwise beq) c.as_slice.ensures c.as_slice-2.ensures)
+    slice_eq-Decides booleans_Decides c.args.a.now c.args.b.now c.eq.result (c.eq.ensures ∙ ap₂ (pointwise beq) c.as_slice.ensures.marks c.as_slice-2.ensures.marks)
