@@ -1,19 +1,27 @@
--- What fits a form has the lengths that its writer wants.
+-- What fits a form has the lengths that its writer wants, and what is in the range of its types fits.
 use mathlib.Core.Bool.{true≢false}
-use Rattle.std.proofs.Common.{◌≡◌, ℕ, ◌<◌, ◌≤◌, true, List, [], ◌∷◌, length, refl, sym, arith}
-use Rattle.std.specs.Prelude.{nat_le, slice_index}
+use Rattle.std.proofs.Common.{◌≡◌, ℕ, suc, ◌+◌, ◌/◌, ◌%◌, ◌^◌, ◌<◌, ◌≤◌, Bool, true, false, cond, List, [], ◌∷◌, length, refl, sym, ap, arith}
+use Rattle.std.specs.Prelude.{Option, None, Some, ◌==◌, ◌||◌, nat_le, nat_lt, is_none, slice_index, sum}
 use Rattle.std.specs.List.{All}
-use Rattle.std.proofs.lemmas.Bool.{and_parts, leb-true}
-use Rattle.qc_config.specs.Config.{Voting}
+use Rattle.std.proofs.lemmas.Bool.{and_parts, and_from, or_parts, leb-true, leb-false, ltb-true, ltb-false, le-leb, lt-ltb}
+use Rattle.std.proofs.lemmas.List.Elements.{All-nil, All-cons, All-head, All-tail, All-from_get_or}
+use Rattle.qc_names.specs.Name.{longest}
+use Rattle.qc_config.specs.Config.{Voting, IsLegal, fault, votes_of}
+use Rattle.qc_config.specs.declared.config.BadConfig.{BadConfig}
+use Rattle.qc_config.specs.declared.tuple.Op.{Op}
+use Rattle.qc_config.specs.declared.tuple.Op.TheVariants.{Get, PutData, PutConfig}
 use Rattle.qc_config.specs.declared.tuple.Tuple.{Tuple}
 use Rattle.qc_event.specs.declared.event.Grant.{Grant}
 use Rattle.qc_event.specs.declared.table.Row.{Row}
 use Rattle.qc_event.specs.declared.table.Table.{Table}
+use Rattle.qc_event.specs.Grants.{Sets}
 use Rattle.qc_event.specs.History.{Name}
+use Rattle.qc_event.proofs.Numbers.{nonzero}
 use Rattle.qc_codec.specs.declared.record.Made.{Made}
 use Rattle.qc_codec.specs.declared.record.LedgerRecord.TheVariants as ledger_record
-use Rattle.qc_codec.specs.Fields.{Layout, format_1, word, name, config, tuple}
-use Rattle.qc_codec.specs.Bodies.{HasLengths, is_between, label, row, table, making, granted, grant, below, top, ledger}
+use Rattle.qc_codec.specs.Form.{byte, only}
+use Rattle.qc_codec.specs.Fields.{Layout, format_1, half, word, long, name, config, tuple, is_length, is_top, some_number, IsNumbered}
+use Rattle.qc_codec.specs.Bodies.{HasLengths, is_between, is_code, code_of, label, row, table, making, granted, grant, below, top, ledger}
 
 pub config_votes : (layout : Layout) (c : Voting) → (config layout).fits c → length c.votes ≡ layout.copies
 unfolding config
@@ -27,6 +35,45 @@ pub name_some : (least : ℕ) (n : Name) → (name least).fits n → 0 < length 
 unfolding name
 name_some least [] fits = absurd (true≢false (sym fits.0.0.1))
 name_some least (x ∷ n) fits = omega arith
+
+-- each number of a name that fits is some
+pub name_numbered : (least : ℕ) (n : Name) → (name least).fits n → IsNumbered n
+unfolding name word
+name_numbered least [] fits = absurd (true≢false (sym fits.0.0.1))
+name_numbered least (top ∷ rest) fits =
+    let halves = and_parts (nat_lt 0 (top / 2 ^ 32)) _ fits.0.1.0.1 in
+    (ltb-true 0 (top / 2 ^ 32) halves.0, ltb-true 0 (top % 2 ^ 32) halves.1, λ k d lt. ltb-true 0 _ (fits.0.1.1.1 k d lt).1)
+
+not_first : (b : Bool) (e : BadConfig) (o : Option BadConfig) → is_none (cond b (Some e) o) ≡ true → (b ≡ false) × (is_none o ≡ true)
+not_first true e o h = absurd (true≢false (sym h))
+not_first false e o h = (refl, h)
+
+possible : (n total : ℕ) → ((n == 0) || nat_lt total n) ≡ false → (0 < n) × (n ≤ total)
+possible n total h = let p = or_parts (n == 0) (nat_lt total n) h in (nonzero n p.0, ltb-false total n p.1)
+
+-- a configuration that fits is legal
+pub config_legal : (layout : Layout) (c : Voting) → (config layout).fits c → IsLegal c
+unfolding config
+config_legal layout c fits =
+    let empty = not_first _ _ _ fits.1 in
+    let votes = not_first _ _ _ empty.1 in
+    let reads = not_first _ _ _ votes.1 in
+    let writes = not_first _ _ _ reads.1 in
+    let overlaps = not_first _ _ _ writes.1 in
+    let read = possible c.read (sum c.votes) reads.0 in
+    let write = possible c.write (sum c.votes) writes.0 in
+    record {
+      some_votes = nonzero (sum c.votes) votes.0;
+      some_read = read.0;
+      read_possible = read.1;
+      some_write = write.0;
+      write_possible = write.1;
+      overlap = leb-false (c.read + c.write) (sum c.votes) overlaps.0;
+    }
+
+pub tuple_legal : (layout : Layout) (t : Tuple) → (tuple layout).fits t → IsLegal t.config
+unfolding tuple
+tuple_legal layout t fits = config_legal layout t.config fits.0.1.1.1
 
 label_short : (l : List ℕ) → label.fits l → length l < 256
 unfolding label
@@ -113,3 +160,53 @@ unfolding ledger
 top_alone [] names fits = absurd fits
 top_alone (n ∷ []) names fits = record { some = omega arith; fits = fits; spelled = refl }
 top_alone (n ∷ k ∷ rest) names fits = absurd fits
+
+-- WHAT TYPES SAY
+
+-- the numbers of a name are in range
+pub record IsNameInRange (n : Name) : Type 0 where
+  pub short : length n ≤ longest
+  pub first : slice_index n 0 < 2 ^ 64
+  pub rest : (k : ℕ) → 0 < k → slice_index n k < 2 ^ 32
+
+rest_fits : (rest : List ℕ) → All (λ n. 0 < n) rest → ((k : ℕ) → slice_index rest k < 2 ^ 32) → All some_number.fits rest
+unfolding word
+rest_fits [] some small = All-nil some_number.fits
+rest_fits (n ∷ rest) some small =
+    All-cons some_number.fits n rest (small 0, lt-ltb 0 n (All-head (λ k. 0 < k) n rest some))
+    (rest_fits rest (All-tail (λ k. 0 < k) n rest some) (λ k. small (suc k)))
+
+pub name_fits : (n : Name) → IsNameInRange n → IsNumbered n → (name 1).fits n
+unfolding name long
+name_fits [] range numbered = absurd numbered
+name_fits (top ∷ rest) range numbered =
+    let short = range.short in
+    let few : length (top ∷ rest) < 256 = omega arith in
+    let between : is_length 1 (length (top ∷ rest)) ≡ true =
+    and_from (nat_lt 0 (length (top ∷ rest))) _ (lt-ltb 0 (length (top ∷ rest)) (omega arith))
+    (and_from (nat_le 1 (length (top ∷ rest))) _ (le-leb 1 (length (top ∷ rest)) (omega arith)) (le-leb (length (top ∷ rest)) longest short)) in
+    let halves : is_top top ≡ true = and_from (nat_lt 0 (top / 2 ^ 32)) _ (lt-ltb 0 (top / 2 ^ 32) numbered.0) (lt-ltb 0 (top % 2 ^ 32) numbered.1) in
+    (((few, between), ((range.first, halves), (omega arith, rest_fits rest numbered.2 (λ k. range.rest (suc k) (omega arith))))), tt)
+
+-- those of a configuration are
+pub record IsConfigInRange (c : Voting) : Type 0 where
+  pub votes : (k : ℕ) → k < length c.votes → votes_of c k < 256
+  pub read : c.read < 2 ^ 16
+  pub write : c.write < 2 ^ 16
+
+pub config_fits : (copies : ℕ) (c : Voting) → length c.votes ≡ copies → fault c.votes c.read c.write ≡ None → IsConfigInRange c → (config (format_1 copies)).fits c
+unfolding config half
+config_fits copies c same none range = ((((same, All-from_get_or (λ v. v < 256) c.votes 0 range.votes), (range.read, range.write)), tt), ap is_none none)
+
+pub tuple_fits : (copies : ℕ) (t : Tuple) → t.version < 2 ^ 64 → t.value < 2 ^ 64 → t.generation < 2 ^ 64 → (config (format_1 copies)).fits t.config → (tuple (format_1 copies)).fits t
+unfolding tuple long
+tuple_fits copies t version value generation fits = ((version, (value, (generation, fits))), tt)
+
+pub code_fits : (op : Op) → (only is_code byte).fits (code_of op)
+code_fits Get = (omega arith, refl)
+code_fits (PutData version value) = (omega arith, refl)
+code_fits (PutConfig generation config) = (omega arith, refl)
+
+pub granted_fits : (copies : ℕ) (g : Grant) → (name 1).fits g.access → g.rec < 256 → (tuple (format_1 copies)).fits g.tuple → Sets g.op g.tuple → (granted 1 (format_1 copies)).fits g
+unfolding granted
+granted_fits copies g named small fits sets = ((named, (small, (code_fits g.op, fits))), sets)

@@ -7,6 +7,10 @@ pub on_ok : {P Q : Type 0} (result : Result (Unit {0}) AllocError) → (P → Q)
 on_ok (Ok x) more so = more so
 on_ok (Err e) more so = tt
 
+pub if_ok : {P : Type 0} (result : Result (Unit {0}) AllocError) → P → OnOk result P
+if_ok (Ok x) p = p
+if_ok (Err e) p = tt
+
 -- a tag, and what stands behind it
 pub behind_tag : (old middle out : List ℕ) (tag : ℕ) (rest whole : List ℕ) → middle ≡ old ++ tag ∷ [] → whole ≡ tag ∷ rest → out ≡ middle ++ rest → out ≡ old ++ whole
 behind_tag old middle out tag rest whole first same last =

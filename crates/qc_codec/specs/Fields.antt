@@ -1,6 +1,7 @@
 -- Fields of bodies: numbers, names, configurations and tuples.
-use Rattle.std.specs.Prelude.{ℕ, ◌-◌, ◌^◌, ◌/◌, ◌%◌, ◌&&◌, Bool, nat_le, nat_lt, is_none, List, [], ◌∷◌, length}
+use Rattle.std.specs.Prelude.{ℕ, ◌-◌, ◌^◌, ◌/◌, ◌%◌, ◌<◌, ◌&&◌, Bool, nat_le, nat_lt, is_none, List, [], ◌∷◌, length}
 use Rattle.std.specs.Int.{w16, w32, w64}
+use Rattle.std.specs.List.{All}
 use Rattle.qc_names.specs.Name.{longest}
 use Rattle.qc_config.specs.Config.{Voting, fault}
 use Rattle.qc_config.specs.declared.tuple.Tuple.{Tuple}
@@ -57,6 +58,11 @@ is_length least n = nat_lt 0 n && (nat_le least n && nat_le n longest)
 unfoldable pub name : ℕ → Form Name
 name least = as_another name_of parts_of_name Any
     (pair (only (is_length least) byte) (λ n. pair top_number (λ top. times (n - 1) some_number)))
+
+-- numbers as started transactions have: both halves of the top's are at least 1, and so is each behind it
+abbrev pub IsNumbered : Name → Type 0
+IsNumbered [] = ⊥
+IsNumbered (top ∷ rest) = (0 < top / 2 ^ 32) × (0 < top % 2 ^ 32) × All (λ n. 0 < n) rest
 
 -- CONFIGURATIONS AND TUPLES
 

@@ -1,7 +1,7 @@
 //! Fields behind bytes, of which nothing is known behind an error.
-ghost use Rattle.std.specs.Prelude.{◌≡◌, ◌<◌, ◌≤◌, length};
+ghost use Rattle.std.specs.Prelude.{◌≡◌, ◌<◌, ◌≤◌, length, OnOk};
 ghost use Rattle.qc_codec.specs.Fields as field;
-ghost use Rattle.qc_codec.specs.Fields.{format_1};
+ghost use Rattle.qc_codec.specs.Fields.{format_1, IsNumbered};
 ghost use Rattle.qc_codec.specs.Gives.{Puts};
 
 use qc_config::{Config, Tuple};
@@ -37,9 +37,11 @@ pub fn put_long(out: &mut Vec<u8>, number: u64) -> Result<(), AllocError>
 pub fn put_config(out: &mut Vec<u8>, copies: u8, config: &Config) -> Result<(), AllocError>
     requires copies { copies ≤ 16 }
     requires same { length config.now.votes ≡ copies }
-    ensures { Puts (field.config (format_1 copies)) config.now result out.old.items out.new.items }
+    ensures written { Puts (field.config (format_1 copies)) config.now result
+        out.old.items out.new.items }
+    ensures fits { OnOk result (0 < copies → (field.config (format_1 copies)).fits config.now) }
 {
-    out.push(copies)?;
+    out.push(config.count() as u8)?;
     for copy in 0..copies {
         out.push(config.votes(copy))?;
     }
@@ -52,7 +54,9 @@ pub fn put_config(out: &mut Vec<u8>, copies: u8, config: &Config) -> Result<(), 
 pub fn put_tuple(out: &mut Vec<u8>, copies: u8, tuple: &Tuple) -> Result<(), AllocError>
     requires copies { copies ≤ 16 }
     requires same { length tuple.now.config.votes ≡ copies }
-    ensures { Puts (field.tuple (format_1 copies)) tuple.now result out.old.items out.new.items }
+    ensures written { Puts (field.tuple (format_1 copies)) tuple.now result
+        out.old.items out.new.items }
+    ensures fits { OnOk result (0 < copies → (field.tuple (format_1 copies)).fits tuple.now) }
 {
     put_long(out, tuple.version)?;
     put_long(out, tuple.value)?;
@@ -64,7 +68,8 @@ pub fn put_tuple(out: &mut Vec<u8>, copies: u8, tuple: &Tuple) -> Result<(), All
 #[tactic(auto, unfolding(crate::specs::Fields::name))]
 pub fn put_name(out: &mut Vec<u8>, name: &Name) -> Result<(), AllocError>
     requires { 0 < length name.now }
-    ensures { Puts (field.name 1) name.now result out.old.items out.new.items }
+    ensures written { Puts (field.name 1) name.now result out.old.items out.new.items }
+    ensures fits { OnOk result (IsNumbered name.now → (field.name 1).fits name.now) }
 {
     out.push(name.len() as u8)?;
     put_long(out, name.number(0).unwrap_or(0))?;

@@ -99,6 +99,11 @@ short_not_down want (Err e) is failed =
     let never : no_serve.Short want ≡ no_serve.Down = sym is ∙ one in
     cc
 
+-- what is handed on is down where that is which it is handed
+pub same_down : {T S : Type 0} (r : Result T ServeNo) (refusal : ServeNo) → IsErrAnd r (λ e. e ≡ refusal) → IsErrOf r no_serve.Down → IsErrOf {T = S} (Err refusal) no_serve.Down
+same_down (Ok x) refusal is failed = absurd cc
+same_down (Err e) refusal is failed = let one : e ≡ no_serve.Down = cc in ap (λ x. Err x) (sym is ∙ one)
+
 -- a site is down where the disk failed
 pub site_down : {T S : Type 0} (refusal : SiteNo) (e : ServeNo) → e ≡ of_site refusal → IsErrOf {T = T} (Err e) no_serve.Down → IsErrOf {T = S} (Err refusal) Disk
 site_down refusal e is failed =

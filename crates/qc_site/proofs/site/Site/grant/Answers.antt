@@ -10,7 +10,7 @@ use Rattle.qc_site.specs.Calls.{empty_handed, site_state, SiteState}
 use Rattle.qc_site.specs.Log.{journal_in}
 use Rattle.qc_site.proofs.Again.{err_or_again, fresh_or_again, one_tuple}
 use Rattle.qc_site.proofs.Calls.{asks, became_on, looked, serves_on}
-use Rattle.qc_site.proofs.Refusals.{short_says}
+use Rattle.qc_site.proofs.Refusals.{same_down, short_says}
 use Rattle.qc_site.proofs.site.Site.grant.Goals as goal
 
 -- WHERE MEMORY OR ROOM IS WANTING
@@ -141,3 +141,9 @@ returns-in-Dead-clause-became g c =
     let law = g.met.D.Disk.leaves_now (disk_of (journal_in c.args.self.now.log)) in
     let none = c.in_ok-told.ensures.hand ∙ ap (hand_after c.args.ask.now) (c.in-Fresh.is ∙ ap (λ x. Fresh x) c.in-Dead.is) in
     asks setting g.row.C c.args.ask.now _ _ (looked setting g.row.C (site_state c.args.self.now) _ law refl refl (none ∙ sym c.requires.ready.none) c.consult.ensures.grants c.consult.ensures.seen)
+
+pub returns-in_err-admit-in-Free-clause-cause : goal.returns-in_err-admit-in-Free-clause-cause
+returns-in_err-admit-in-Free-clause-cause g c = record {
+  later = c.admit.ensures.cause.later;
+  failed = λ down. c.in_err-admit-in-Free.ensures.cause.failed (same_down c.from_residual-in_err-admit-in-Free.result c.in_err-admit-in-Free.field-0.0 c.from_residual-in_err-admit-in-Free.ensures.1 down);
+}
