@@ -3,3 +3,6 @@ mod Reasons
 mod Events
 mod Saved
 mod Fits
+mod InARow
+mod Again
+pub mod LegalEntries

@@ -1,10 +1,12 @@
 //! What a run started from.
-ghost use Rattle.std.specs.Prelude.{◌≡◌, ◌≤◌, Some, length, IfOk, IfErr};
+ghost use Rattle.std.specs.Prelude.{◌≡◌, ◌<◌, ◌≤◌, Some, length, IfOk, IfErr, OnOk};
 ghost use Rattle.std.specs.List.{All};
 ghost use Rattle.qc_codec.specs.Fields as field;
 ghost use Rattle.qc_codec.specs.Fields.{format_1};
 ghost use Rattle.qc_codec.specs.Form.{times, times_taken};
 ghost use Rattle.qc_codec.specs.Gives.{Refuses, Reads, ReadsEach, Puts, PutsEach};
+ghost use Rattle.qc_event.specs.Base.{IsProperBase};
+ghost use Rattle.qc_trail_codec.specs.Saving.{IsTupleFor, records_of};
 ghost use Rattle.qc_trail_codec.specs.Trail as saved;
 
 use crate::kind::put_byte;
@@ -72,11 +74,13 @@ pub(crate) fn base(cursor: &mut Cursor<'_>, alloc: Global) -> Result<Base, Codec
     rows(cursor, alloc, copies, records)
 }
 
-#[tactic(auto, using(qc_codec::proofs::Fits::tuple_votes))]
 fn put_row(out: &mut Vec<u8>, copies: u8, row: &[Tuple]) -> Result<(), AllocError>
-    requires copies { copies ≤ 16 }
-    requires fits { All (field.tuple (format_1 copies)).fits row.now }
-    ensures { PutsEach (field.tuple (format_1 copies)) row.now result out.old.items out.new.items }
+    requires some { 0 < copies }
+    requires most { copies ≤ 16 }
+    requires for_copies { All (IsTupleFor copies) row.now }
+    ensures written { PutsEach (field.tuple (format_1 copies)) row.now result
+        out.old.items out.new.items }
+    ensures fits { OnOk result (All (field.tuple (format_1 copies)).fits row.now) }
 {
     for tuple in row {
         put_tuple(out, copies, tuple)?;
@@ -87,8 +91,9 @@ fn put_row(out: &mut Vec<u8>, copies: u8, row: &[Tuple]) -> Result<(), AllocErro
 /// Writes a base behind bytes, of which nothing is known behind an error.
 #[tactic(auto, unfolding(crate::specs::Trail::base))]
 pub(crate) fn put_base(out: &mut Vec<u8>, base: &Base) -> Result<(), AllocError>
-    requires { (saved.base 1).fits base.now }
-    ensures { Puts (saved.base 1) base.now result out.old.items out.new.items }
+    requires { IsProperBase (records_of base.now) base.now }
+    ensures written { Puts (saved.base 1) base.now result out.old.items out.new.items }
+    ensures fits { OnOk result ((saved.base 1).fits base.now) }
 {
     let copies = base.copies() as u8;
     put_byte(out, copies)?;

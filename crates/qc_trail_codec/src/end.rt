@@ -1,8 +1,9 @@
 //! How transactions end.
-ghost use Rattle.std.specs.Prelude.{◌≤◌};
+ghost use Rattle.std.specs.Prelude.{◌<◌, ◌≤◌, OnOk};
 ghost use Rattle.qc_codec.specs.Fields.{format_1};
 ghost use Rattle.qc_codec.specs.Gives.{Reads, Puts};
 ghost use Rattle.qc_trail_codec.specs.Events as events;
+ghost use Rattle.qc_trail_codec.specs.Saving.{CanEndBeSaved, IsAnswerFor, IsNumberedCause};
 
 use crate::kind::put_byte;
 use crate::reason::{lack, put_lack};
@@ -24,11 +25,14 @@ fn answer(cursor: &mut Cursor<'_>, copies: u8) -> Result<Answer, CodecNo>
     }
 }
 
-#[tactic(auto, using(qc_codec::proofs::Fits::tuple_votes), unfolding(crate::specs::Events::answer))]
+#[tactic(auto, unfolding(crate::specs::Events::answer))]
 fn put_answer(out: &mut Vec<u8>, copies: u8, answer: &Answer) -> Result<(), AllocError>
-    requires copies { copies ≤ 16 }
-    requires fits { (events.answer (format_1 copies)).fits answer.now }
-    ensures { Puts (events.answer (format_1 copies)) answer.now result out.old.items out.new.items }
+    requires some { 0 < copies }
+    requires most { copies ≤ 16 }
+    requires for_copies { IsAnswerFor copies answer.now }
+    ensures written { Puts (events.answer (format_1 copies)) answer.now result
+        out.old.items out.new.items }
+    ensures fits { OnOk result ((events.answer (format_1 copies)).fits answer.now) }
 {
     match answer {
         Answer::Nothing => put_byte(out, 0),
@@ -69,10 +73,11 @@ fn cause(cursor: &mut Cursor<'_>) -> Result<Cause, CodecNo>
     }
 }
 
-#[tactic(auto, using(qc_codec::proofs::Fits::name_some), unfolding(crate::specs::Events::cause))]
+#[tactic(auto, using(crate::proofs::Fits::numbered_some), unfolding(crate::specs::Events::cause))]
 fn put_cause(out: &mut Vec<u8>, cause: &Cause) -> Result<(), AllocError>
-    requires { events.cause.fits cause.now }
-    ensures { Puts events.cause cause.now result out.old.items out.new.items }
+    requires { IsNumberedCause cause.now }
+    ensures written { Puts events.cause cause.now result out.old.items out.new.items }
+    ensures fits { OnOk result (events.cause.fits cause.now) }
 {
     match cause {
         Cause::Asked { by } => {
@@ -118,9 +123,12 @@ pub(crate) fn how(cursor: &mut Cursor<'_>, copies: u8) -> Result<How, CodecNo>
 /// Writes how a transaction ended behind bytes, of which nothing is known behind an error.
 #[tactic(auto, unfolding(crate::specs::Events::how))]
 pub(crate) fn put_how(out: &mut Vec<u8>, copies: u8, how: &How) -> Result<(), AllocError>
-    requires copies { copies ≤ 16 }
-    requires fits { (events.how (format_1 copies)).fits how.now }
-    ensures { Puts (events.how (format_1 copies)) how.now result out.old.items out.new.items }
+    requires some { 0 < copies }
+    requires most { copies ≤ 16 }
+    requires can { CanEndBeSaved copies how.now }
+    ensures written { Puts (events.how (format_1 copies)) how.now result
+        out.old.items out.new.items }
+    ensures fits { OnOk result ((events.how (format_1 copies)).fits how.now) }
 {
     match how {
         How::Commit(answer) => {

@@ -1,9 +1,10 @@
 //! Entries.
-ghost use Rattle.std.specs.Prelude.{◌≤◌};
-ghost use Rattle.qc_codec.specs.Fields.{format_1};
+ghost use Rattle.std.specs.Prelude.{◌<◌, ◌≤◌, OnOk};
+ghost use Rattle.qc_codec.specs.Fields.{format_1, IsNumbered};
 ghost use Rattle.qc_codec.specs.Gives.{Reads, Puts};
 ghost use Rattle.qc_event.specs.declared.event.Event.TheVariants as event;
 ghost use Rattle.qc_trail_codec.specs.Events as events;
+ghost use Rattle.qc_trail_codec.specs.Saving.{CanAskBeSaved, CanBeSaved, CanEventBeSaved, CanGrantBeSaved, IsNumberedRefusal};
 
 use crate::end::{how, put_how};
 use crate::kind::{kind, op, put_byte, put_kind, put_op};
@@ -28,11 +29,14 @@ fn ask(cursor: &mut Cursor<'_>, copies: u8) -> Result<Ask, CodecNo>
     })
 }
 
-#[tactic(auto, using(qc_codec::proofs::Fits::name_some), unfolding(crate::specs::Events::ask))]
+#[tactic(auto, using(crate::proofs::Fits::numbered_some), unfolding(crate::specs::Events::ask))]
 fn put_ask(out: &mut Vec<u8>, copies: u8, ask: &Ask) -> Result<(), AllocError>
-    requires copies { copies ≤ 16 }
-    requires fits { (events.ask (format_1 copies)).fits ask.now }
-    ensures { Puts (events.ask (format_1 copies)) ask.now result out.old.items out.new.items }
+    requires some { 0 < copies }
+    requires most { copies ≤ 16 }
+    requires can { CanAskBeSaved copies ask.now }
+    ensures written { Puts (events.ask (format_1 copies)) ask.now result
+        out.old.items out.new.items }
+    ensures fits { OnOk result ((events.ask (format_1 copies)).fits ask.now) }
 {
     put_name(out, &ask.access)?;
     put_byte(out, ask.copy)?;
@@ -51,10 +55,11 @@ fn refusal(cursor: &mut Cursor<'_>) -> Result<Refusal, CodecNo>
     }
 }
 
-#[tactic(auto, using(qc_codec::proofs::Fits::name_some), unfolding(crate::specs::Events::refusal))]
+#[tactic(auto, using(crate::proofs::Fits::numbered_some), unfolding(crate::specs::Events::refusal))]
 fn put_refusal(out: &mut Vec<u8>, refusal: &Refusal) -> Result<(), AllocError>
-    requires { events.refusal.fits refusal.now }
-    ensures { Puts events.refusal refusal.now result out.old.items out.new.items }
+    requires { IsNumberedRefusal refusal.now }
+    ensures written { Puts events.refusal refusal.now result out.old.items out.new.items }
+    ensures fits { OnOk result (events.refusal.fits refusal.now) }
 {
     match refusal {
         Refusal::Blocked(holder) => {
@@ -122,31 +127,36 @@ fn event(cursor: &mut Cursor<'_>, copies: u8) -> Result<Event, CodecNo>
     }
 }
 
-#[tactic(auto, using(qc_codec::proofs::Fits::name_some), unfolding(crate::specs::Events::event))]
+#[tactic(auto, using(crate::proofs::Fits::numbered_some), unfolding(crate::specs::Events::event))]
 fn put_gone(out: &mut Vec<u8>, copies: u8, access: &Name, why: Why) -> Result<(), AllocError>
-    requires copies { copies ≤ 16 }
-    requires fits { (events.event (format_1 copies)).fits (event.Gone access.now why) }
-    ensures { Puts (events.event (format_1 copies)) (event.Gone access.now why) result
+    requires most { copies ≤ 16 }
+    requires numbered { IsNumbered access.now }
+    ensures written { Puts (events.event (format_1 copies)) (event.Gone access.now why) result
         out.old.items out.new.items }
+    ensures fits { OnOk result
+        ((events.event (format_1 copies)).fits (event.Gone access.now why)) }
 {
     put_byte(out, 3)?;
     put_name(out, access)?;
     put_why(out, why)
 }
 
-#[tactic(auto, using(qc_codec::proofs::Fits::granted_name, qc_codec::proofs::Fits::granted_votes), unfolding(crate::specs::Events::event))]
+#[tactic(auto, using(crate::proofs::Fits::numbered_some), unfolding(crate::specs::Events::event))]
 fn put_grant(out: &mut Vec<u8>, copies: u8, copy: u8, grant: &Grant) -> Result<(), AllocError>
-    requires copies { copies ≤ 16 }
-    requires fits { (events.event (format_1 copies)).fits (event.Granted copy grant.now) }
-    ensures { Puts (events.event (format_1 copies)) (event.Granted copy grant.now) result
+    requires some { 0 < copies }
+    requires most { copies ≤ 16 }
+    requires can { CanGrantBeSaved copies grant.now }
+    ensures written { Puts (events.event (format_1 copies)) (event.Granted copy grant.now) result
         out.old.items out.new.items }
+    ensures fits { OnOk result
+        ((events.event (format_1 copies)).fits (event.Granted copy grant.now)) }
 {
     put_byte(out, 4)?;
     put_byte(out, copy)?;
     put_granted(out, copies, grant)
 }
 
-#[tactic(auto, using(qc_codec::proofs::Fits::name_some), unfolding(crate::specs::Events::event))]
+#[tactic(auto, using(crate::proofs::Fits::numbered_some), unfolding(crate::specs::Events::event))]
 fn put_refused(
     out: &mut Vec<u8>,
     copies: u8,
@@ -154,11 +164,13 @@ fn put_refused(
     copy: u8,
     refusal: &Refusal,
 ) -> Result<(), AllocError>
-    requires copies { copies ≤ 16 }
-    requires fits { (events.event (format_1 copies)).fits
-        (event.Refused access.now copy refusal.now) }
-    ensures { Puts (events.event (format_1 copies)) (event.Refused access.now copy refusal.now)
-        result out.old.items out.new.items }
+    requires most { copies ≤ 16 }
+    requires access { IsNumbered access.now }
+    requires refusal { IsNumberedRefusal refusal.now }
+    ensures written { Puts (events.event (format_1 copies))
+        (event.Refused access.now copy refusal.now) result out.old.items out.new.items }
+    ensures fits { OnOk result ((events.event (format_1 copies)).fits
+        (event.Refused access.now copy refusal.now)) }
 {
     put_byte(out, 5)?;
     put_name(out, access)?;
@@ -166,11 +178,14 @@ fn put_refused(
     put_refusal(out, refusal)
 }
 
-#[tactic(auto, using(qc_codec::proofs::Fits::name_some, qc_codec::proofs::Fits::granted_name, qc_codec::proofs::Fits::granted_votes), unfolding(crate::specs::Events::event, crate::specs::Reasons::inability))]
+#[tactic(auto, using(crate::proofs::Fits::numbered_some), unfolding(crate::specs::Events::event, crate::specs::Reasons::inability))]
 fn put_event(out: &mut Vec<u8>, copies: u8, event: &Event) -> Result<(), AllocError>
-    requires copies { copies ≤ 16 }
-    requires fits { (events.event (format_1 copies)).fits event.now }
-    ensures { Puts (events.event (format_1 copies)) event.now result out.old.items out.new.items }
+    requires some { 0 < copies }
+    requires most { copies ≤ 16 }
+    requires can { CanEventBeSaved copies event.now }
+    ensures written { Puts (events.event (format_1 copies)) event.now result
+        out.old.items out.new.items }
+    ensures fits { OnOk result ((events.event (format_1 copies)).fits event.now) }
 {
     match event {
         Event::Start { name, kind } => {
@@ -225,9 +240,12 @@ pub(crate) fn entry(cursor: &mut Cursor<'_>, copies: u8) -> Result<Entry, CodecN
 /// Writes an entry behind bytes, of which nothing is known behind an error.
 #[tactic(auto, unfolding(crate::specs::Events::entry))]
 pub(crate) fn put_entry(out: &mut Vec<u8>, copies: u8, entry: &Entry) -> Result<(), AllocError>
-    requires copies { copies ≤ 16 }
-    requires fits { (events.entry (format_1 copies)).fits entry.now }
-    ensures { Puts (events.entry (format_1 copies)) entry.now result out.old.items out.new.items }
+    requires some { 0 < copies }
+    requires most { copies ≤ 16 }
+    requires can { CanBeSaved copies entry.now }
+    ensures written { Puts (events.entry (format_1 copies)) entry.now result
+        out.old.items out.new.items }
+    ensures fits { OnOk result ((events.entry (format_1 copies)).fits entry.now) }
 {
     put_word(out, entry.seat)?;
     put_event(out, copies, &entry.event)

@@ -1,9 +1,10 @@
 //! Operations, and what transactions are for.
-ghost use Rattle.std.specs.Prelude.{◌≤◌};
+ghost use Rattle.std.specs.Prelude.{◌<◌, ◌≤◌, OnOk};
 ghost use Rattle.qc_codec.specs.Fields.{format_1};
 ghost use Rattle.qc_codec.specs.Form.{byte};
 ghost use Rattle.qc_codec.specs.Gives.{Reads, Puts};
 ghost use Rattle.qc_trail_codec.specs.Events as events;
+ghost use Rattle.qc_trail_codec.specs.Saving.{IsKindFor, IsOpFor};
 
 use qc_codec::{CodecNo, Cursor, put_config, put_long, put_word};
 use qc_config::Op;
@@ -39,11 +40,14 @@ pub(crate) fn op(cursor: &mut Cursor<'_>, copies: u8) -> Result<Op, CodecNo>
 }
 
 /// Writes an operation behind bytes, of which nothing is known behind an error.
-#[tactic(auto, using(qc_codec::proofs::Fits::config_votes), unfolding(crate::specs::Events::op))]
+#[tactic(auto, unfolding(crate::specs::Events::op))]
 pub(crate) fn put_op(out: &mut Vec<u8>, copies: u8, op: &Op) -> Result<(), AllocError>
-    requires copies { copies ≤ 16 }
-    requires fits { (events.op (format_1 copies)).fits op.now }
-    ensures { Puts (events.op (format_1 copies)) op.now result out.old.items out.new.items }
+    requires some { 0 < copies }
+    requires most { copies ≤ 16 }
+    requires for_copies { IsOpFor copies op.now }
+    ensures written { Puts (events.op (format_1 copies)) op.now result
+        out.old.items out.new.items }
+    ensures fits { OnOk result ((events.op (format_1 copies)).fits op.now) }
 {
     match op {
         Op::Get => put_byte(out, 0),
@@ -88,11 +92,14 @@ pub(crate) fn kind(cursor: &mut Cursor<'_>, copies: u8) -> Result<Kind, CodecNo>
 }
 
 /// Writes what a transaction is for behind bytes, of which nothing is known behind an error.
-#[tactic(auto, using(qc_codec::proofs::Fits::config_votes), unfolding(crate::specs::Events::kind))]
+#[tactic(auto, unfolding(crate::specs::Events::kind))]
 pub(crate) fn put_kind(out: &mut Vec<u8>, copies: u8, kind: &Kind) -> Result<(), AllocError>
-    requires copies { copies ≤ 16 }
-    requires fits { (events.kind (format_1 copies)).fits kind.now }
-    ensures { Puts (events.kind (format_1 copies)) kind.now result out.old.items out.new.items }
+    requires some { 0 < copies }
+    requires most { copies ≤ 16 }
+    requires for_copies { IsKindFor copies kind.now }
+    ensures written { Puts (events.kind (format_1 copies)) kind.now result
+        out.old.items out.new.items }
+    ensures fits { OnOk result ((events.kind (format_1 copies)).fits kind.now) }
 {
     match kind {
         Kind::User { session, body } => {

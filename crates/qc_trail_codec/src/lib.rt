@@ -5,9 +5,11 @@ mod base;
 mod end;
 mod event;
 mod kind;
+mod law;
 mod reason;
 mod record;
 mod trail;
 
-pub use record::{Entries, Trail};
+pub use law::legal_histories_can_be_saved;
+pub use record::{Entries, SavedTrail};
 pub use trail::{read_trail, write_trail};

@@ -1,5 +1,5 @@
 //! Why no answer came, and who replied in a phase.
-ghost use Rattle.std.specs.Prelude.{◌≡◌, ◌≤◌, length};
+ghost use Rattle.std.specs.Prelude.{◌≡◌, ◌≤◌, length, OnOk};
 ghost use Rattle.qc_codec.specs.Gives.{Reads, ReadsEach, Puts, PutsEach};
 ghost use Rattle.qc_trail_codec.specs.Reasons as reasons;
 
@@ -96,8 +96,9 @@ fn missing(cursor: &mut Cursor<'_>) -> Result<[Option<Why>; 16], CodecNo>
     Ok(missing)
 }
 
-fn put_missing(out: &mut Vec<u8>, missing: &[Option<Why>]) -> Result<(), AllocError>
-    ensures { PutsEach reasons.reason missing.now result out.old.items out.new.items }
+fn put_missing(out: &mut Vec<u8>, missing: &[Option<Why>; 16]) -> Result<(), AllocError>
+    ensures written { PutsEach reasons.reason missing.now result out.old.items out.new.items }
+    ensures sixteen { length missing.now ≡ 16 }
 {
     for reason in missing {
         put_reason(out, *reason)?;
@@ -176,10 +177,10 @@ pub(crate) fn lack(cursor: &mut Cursor<'_>) -> Result<Lack, CodecNo>
 /// Writes a lack behind bytes, of which nothing is known behind an error.
 #[tactic(auto, unfolding(crate::specs::Reasons::lack, crate::specs::Reasons::copies))]
 pub(crate) fn put_lack(out: &mut Vec<u8>, lack: &Lack) -> Result<(), AllocError>
-    requires { reasons.lack.fits lack.now }
-    ensures { Puts reasons.lack lack.now result out.old.items out.new.items }
+    ensures written { Puts reasons.lack lack.now result out.old.items out.new.items }
+    ensures fits { OnOk result (reasons.lack.fits lack.now) }
 {
     put_phase(out, lack.phase)?;
     put_half(out, number_of(lack.replied.as_slice()))?;
-    put_missing(out, lack.missing.as_slice())
+    put_missing(out, &lack.missing)
 }

@@ -1,4 +1,4 @@
-//! Trails, and lists of entries.
+//! Saved trails, and lists of entries.
 ghost use Rattle.std.specs.Prelude.{◌≡◌};
 
 use qc_event::{Base, Entry};
@@ -37,7 +37,7 @@ impl Entries {
 
 /// What a run started from, and its entries.
 #[derive(Debug, Drop)]
-pub struct Trail {
+pub struct SavedTrail {
     pub base: Base,
     pub entries: Entries,
 }

@@ -1,18 +1,21 @@
 //! Saved trails.
-ghost use Rattle.std.specs.Prelude.{◌≡◌, ◌≤◌, [], ◌∷◌, ◌++◌, IfOk, IsErrOf, OnOk};
+ghost use Rattle.std.specs.Prelude.{◌≡◌, ◌<◌, ◌≤◌, [], ◌∷◌, ◌++◌, length, IfOk, IsErrOf, OnOk};
 ghost use Rattle.std.specs.List.{All};
 ghost use Rattle.qc_codec.specs.Fields.{format_1};
 ghost use Rattle.qc_codec.specs.Gives.{Reads, ReadsEach, ReadsAll, Spells, SpellsNone, PutsEach};
 ghost use Rattle.qc_codec.specs.declared.fault.CodecNo.TheVariants.{Bad};
+ghost use Rattle.qc_event.specs.Base.{IsProperBase};
 ghost use Rattle.qc_trail_codec.specs.Events as events;
+ghost use Rattle.qc_trail_codec.specs.Saving.{CanBeSaved, records_of};
 ghost use Rattle.qc_trail_codec.specs.Trail as saved;
 
 use crate::base::{base, put_base};
 use crate::event::{entry, put_entry};
-use crate::record::{Entries, Trail};
+use crate::record::{Entries, SavedTrail};
 use qc_codec::{CodecNo, Cursor, put_long};
-use qc_event::{Base, Entry};
+use qc_event::Base;
 use qc_names::lists::append;
+use qc_trail::Trail;
 use std::alloc::{AllocError, Global};
 
 // So many entries.
@@ -37,16 +40,16 @@ fn entries(
 }
 
 #[tactic(auto, unfolding(crate::specs::Trail::trail))]
-fn trail(cursor: &mut Cursor<'_>, alloc: Global) -> Result<Trail, CodecNo>
+fn trail(cursor: &mut Cursor<'_>, alloc: Global) -> Result<SavedTrail, CodecNo>
     ensures { Reads (saved.trail 1) result cursor.old cursor.new }
 {
     let base = base(cursor, alloc)?;
     let count = cursor.long()?;
     let entries = entries(cursor, alloc, base.copies() as u8, count)?;
-    Ok(Trail { base, entries })
+    Ok(SavedTrail { base, entries })
 }
 
-fn all(alloc: Global, bytes: &[u8]) -> Result<Trail, CodecNo>
+fn all(alloc: Global, bytes: &[u8]) -> Result<SavedTrail, CodecNo>
     ensures { ReadsAll (saved.trail 1) result bytes.now }
 {
     let mut cursor = Cursor { rest: bytes };
@@ -58,30 +61,38 @@ fn all(alloc: Global, bytes: &[u8]) -> Result<Trail, CodecNo>
 }
 
 /// The saved trail that the bytes are.
-pub fn read_trail(alloc: Global, bytes: &[u8]) -> Result<Trail, CodecNo>
+pub fn read_trail(alloc: Global, bytes: &[u8]) -> Result<SavedTrail, CodecNo>
     ensures exact { ReadsAll (saved.trail 1) result bytes.now }
     ensures found { IfOk result (Spells (saved.trail 1) bytes.now) }
     ensures bad { IsErrOf result Bad → SpellsNone (saved.trail 1) bytes.now }
+
+    // What was read can be saved again.
+    ensures base { IfOk result (λ t. IsProperBase (records_of t.base) t.base) }
+    ensures entries { IfOk result (λ t. All (CanBeSaved (length t.base)) t.entries) }
 {
     all(alloc, bytes)
 }
 
-fn put_entries(out: &mut Vec<u8>, copies: u8, entries: &[Entry]) -> Result<(), AllocError>
-    requires copies { copies ≤ 16 }
-    requires fits { All (events.entry (format_1 copies)).fits entries.now }
-    ensures { PutsEach (events.entry (format_1 copies)) entries.now result
+fn put_entries(out: &mut Vec<u8>, copies: u8, entries: &Trail) -> Result<(), AllocError>
+    requires some { 0 < copies }
+    requires most { copies ≤ 16 }
+    requires can { All (CanBeSaved copies) entries.now }
+    ensures written { PutsEach (events.entry (format_1 copies)) entries.now result
         out.old.items out.new.items }
+    ensures fits { OnOk result (All (events.entry (format_1 copies)).fits entries.now) }
 {
-    for entry in entries {
-        put_entry(out, copies, entry)?;
+    for at in 0..entries.len() {
+        let entry = entries.at(at);
+        put_entry(out, copies, &entry)?;
     }
     Ok(())
 }
 
 /// The bytes of a trail: what a run started from, and its entries.
-#[tactic(auto, using(crate::proofs::Fits::base_most), unfolding(crate::specs::Trail::trail))]
-pub fn write_trail(alloc: Global, base: &Base, entries: &[Entry]) -> Result<Vec<u8>, AllocError>
-    requires proper { (saved.trail 1).fits (record { base = base.now; entries = entries.now }) }
+#[tactic(auto, unfolding(crate::specs::Trail::trail))]
+pub fn write_trail(alloc: Global, base: &Base, entries: &Trail) -> Result<Vec<u8>, AllocError>
+    requires base { IsProperBase (records_of base.now) base.now }
+    requires entries { All (CanBeSaved (length base.now)) entries.now }
     ensures { IfOk result (λ bytes. Spells (saved.trail 1) bytes.items
         (record { base = base.now; entries = entries.now })) }
 {

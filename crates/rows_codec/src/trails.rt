@@ -1,12 +1,16 @@
 //! Saved trails.
-ghost use Rattle.qc_trail_codec.specs.Trail as saved;
+ghost use Rattle.std.specs.Prelude.{◌≡◌, length, IfOk};
+ghost use Rattle.std.specs.List.{All};
+ghost use Rattle.qc_event.specs.Base.{IsProperBase};
+ghost use Rattle.qc_trail_codec.specs.Saving.{CanBeSaved, records_of};
 
 use crate::events::print_entry;
 use crate::{Answer, bytes_of, print_bytes, print_fault};
-use qc_event::Base;
-use qc_trail_codec::{Trail, read_trail, write_trail};
+use qc_event::{Base, Entry};
+use qc_trail::Trail;
+use qc_trail_codec::{SavedTrail, read_trail, write_trail};
 use rows_text::{TupleText, Words};
-use std::alloc::Global;
+use std::alloc::{AllocError, Global};
 use std::io;
 
 fn print_base(rt: &HostRuntime, base: &Base) -> io::Result<()> {
@@ -21,21 +25,33 @@ fn print_base(rt: &HostRuntime, base: &Base) -> io::Result<()> {
     println!(rt;)
 }
 
-fn print_both(rt: &HostRuntime, alloc: Global, trail: &Trail) -> io::Result<()>
-    requires { (saved.trail 1).fits trail.now }
+fn trail_of(alloc: Global, entries: &[Entry]) -> Result<Trail, AllocError>
+    ensures { IfOk result (λ trail. trail ≡ entries.now) }
 {
-    print_base(rt, &trail.base)?;
-    let entries = trail.entries.as_slice();
+    let mut trail = Trail::new(alloc);
+    for entry in entries {
+        trail.push(entry, None)?;
+    }
+    Ok(trail)
+}
+
+fn print_both(rt: &HostRuntime, alloc: Global, saved: &SavedTrail) -> io::Result<()>
+    requires base { IsProperBase (records_of saved.now.base) saved.now.base }
+    requires entries { All (CanBeSaved (length saved.now.base)) saved.now.entries }
+{
+    print_base(rt, &saved.base)?;
+    let entries = saved.entries.as_slice();
     for entry in entries {
         print_entry(rt, entry)?;
     }
-    let again = write_trail(alloc, &trail.base, entries)?;
+    let trail = trail_of(alloc, entries)?;
+    let again = write_trail(alloc, &saved.base, &trail)?;
     print_bytes(rt, alloc, &again)
 }
 
 fn show(rt: &HostRuntime, alloc: Global, bytes: &[u8]) -> io::Result<()> {
     match read_trail(alloc, bytes) {
-        Ok(trail) => print_both(rt, alloc, &trail),
+        Ok(saved) => print_both(rt, alloc, &saved),
         Err(fault) => print_fault(rt, fault),
     }
 }
