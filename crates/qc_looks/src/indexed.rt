@@ -3,6 +3,7 @@ ghost use Rattle.std.specs.Prelude.{◌≡◌, ◌<◌, [], ◌∷◌, IfOk, OnO
 ghost use Rattle.qc_event.specs.Base.{IsProper, Setting};
 ghost use Rattle.qc_event.specs.History.{limit};
 ghost use Rattle.qc_event.specs.Legal.{Legal};
+ghost use Rattle.qc_history.specs.Index.{IsOf};
 ghost use Rattle.qc_looks.specs.Indexed.{AreKept, CanFollow};
 
 use crate::asks::Asks;
@@ -10,7 +11,7 @@ use crate::names::{begun, children, children_ended, is_child_aborted};
 use crate::requests::Requests;
 use crate::tables::Tables;
 use qc_event::{Ask, Base, Cause, Config, Entry, How, Name, Refusal, Short, Tuple, Why};
-use qc_history::History;
+use qc_history::{History, Index};
 use qc_scan::{Begun, Given, Looks, Request};
 use std::alloc::{AllocError, Global};
 use std::marker::Model;
@@ -91,6 +92,13 @@ impl<'a> Indexed<'a> {
             asks: Asks::new(alloc),
             tables: Tables::new(alloc, base)?,
         })
+    }
+
+    /// The index of the names.
+    pub fn names(&self) -> &Index
+        ensures { IsOf result.now self.now.past }
+    {
+        self.history.names()
     }
 
     /// Takes in an entry that may come next.
