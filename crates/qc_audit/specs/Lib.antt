@@ -1,0 +1,4 @@
+pub mod Illegal
+pub mod Walks
+pub mod Saved
+pub mod Verdicts
