@@ -8,7 +8,7 @@ program=$crate/out/qc_prog
 stamp=$crate/out/qc_prog.sources
 log=$crate/out/qc_prog.log
 lock=$crate/out/qc_prog.lock
-usage='usage: qc run [--dir PATH] [--serial] < SCRIPT | qc gen N'
+usage='usage: qc run [--dir PATH] [--serial] [--trail] < SCRIPT | qc gen N | qc audit < TRAIL'
 
 say() { printf 'qc: %s\n' "$*" >&2; }
 
@@ -22,6 +22,8 @@ did. The program is proved before it is built: README.md says of what.
   ./qc run < SCRIPT              runs a script: sessions, and bodies of "par", in threads
   ./qc run --serial < SCRIPT     one after another, so that the script alone decides the report
   ./qc run --dir P < SCRIPT      over the disks in the folder P, for a later run too, in either way
+  ./qc run --trail < SCRIPT      writes the saved trail of the run in place of the report
+  ./qc audit < TRAIL             tells whether it is legal, and the serial order of what it did
   ./qc gen N                     makes a script of the number N, runs it, and writes its last values
   ./qc --unproved run < SCRIPT   the same before the first build is done, unproved
   ./qc --unproved run SCRIPT ..  several scripts, each behind a line "== NAME"
@@ -44,8 +46,9 @@ a script may have "patience".
 
 The exit status is 0 where the report was written, 2 for words that are no command, 3 for a text
 that is no script, 4 and 5 where the input or the output failed, 6 where a disk failed, 7 where what
-stands on one is refused, 8 where a top is in doubt, 9 where there was no memory, 14 where the history
-is full; and 1 where the program could not be built.
+stands on one is refused, 8 where a top is in doubt, 9 where there was no memory, 10 for bytes that
+are no saved trail, 11 for one that is not legal, 12 for one that the serial machine refuses, 14 where
+the history is full; and 1 where the program could not be built.
 
 examples/ has more scripts, each with its report; docs/FORMATS.md has every step, refusal and line.
 END
@@ -74,19 +77,22 @@ take_place() {
     [ ! "$place" ] && place=$1
 }
 
-# Whether the words are a command: `run` with its options behind it, or `gen` and a number. Behind `run` an
-# unproved call may also name scripts, whose number is told here.
+# Whether the words are a command: `run` with its options behind it, `gen` and a number, or `audit`. Behind `run`
+# an unproved call may also name scripts, whose number is told here.
 read_words() {
     place=
     serial=
+    trail=
     scripts=0
     case ${1-} in
     gen) [ $# -eq 2 ] && is_number "$2" ;;
+    audit) [ $# -eq 1 ] ;;
     run)
         while [ $# -gt 1 ]; do
             shift
             case $1 in
             --serial) [ ! "$serial" ] && serial=yes || return 1 ;;
+            --trail) [ ! "$trail" ] && trail=yes || return 1 ;;
             --dir) [ $# -gt 1 ] && shift && take_place "$1" || return 1 ;;
             --dir=*) take_place "${1#--dir=}" || return 1 ;;
             -*) return 1 ;;
@@ -299,6 +305,7 @@ run_unproved() {
         set -- run
         # rt try runs in the crate's folder, so the folder of the disks is told from the root on.
         [ "$serial" ] && set -- "$@" --serial
+        [ "$trail" ] && set -- "$@" --trail
         [ "$place" ] && set -- "$@" --dir "$(whole_path "$place")"
     fi
     if [ "$scripts" -gt 0 ]; then set -- --cases "$room/cases" -- "$@"; else set -- -- "$@"; fi

@@ -1,13 +1,13 @@
 -- Words ask for one thing at most; and what is found among them is what they ask for.
-use Rattle.std.proofs.Common.{ℕ, ◌≡◌, ◌<◌, ◌^◌, Bool, true, false, List, [], ◌∷◌, map, Option, None, Some, refl, sym, ap, ◌∙◌, subst, inl, inr}
+use Rattle.std.proofs.Common.{ℕ, ◌≡◌, ◌<◌, ◌^◌, Bool, true, false, List, [], ◌∷◌, Option, None, Some, refl, sym, ap, ◌∙◌, subst}
 use Rattle.std.specs.Prelude.{◌↔◌, codes, if◌then◌else◌}
 use Rattle.std.specs.Fmt.{decimal}
 use Rattle.std.specs.Str.{bytes_eq}
 use Rattle.std.proofs.lemmas.Fmt.{decimal_injective}
 use Rattle.std.proofs.lemmas.Slice.Eq.{bytes_eq-Decides}
-use Rattle.qc_run.specs.Options.{behind_gen, run_place}
-use Rattle.qc_run.specs.Words.{Text, Asked, IsOneOf, IsRunAt, IsGenOf, IsCommand, options_at}
-use Rattle.qc_run.proofs.Places.{place_found}
+use Rattle.qc_run.specs.Options.{behind_gen, is_audit, run_choices}
+use Rattle.qc_run.specs.Words.{Text, Asked, Chosen, IsAudit, IsRunAs, IsGenOf, IsCommand, asked_as}
+use Rattle.qc_run.proofs.Choices.{run_found}
 
 one_word : (o : Option Text) (p q : Text) → o ≡ Some p → o ≡ Some q → p ≡ q
 one_word o p q a b = cc
@@ -21,11 +21,6 @@ none_behind_gen words options is = subst (λ w. behind_gen w ≡ None) (sym is) 
     by_options (one ∷ []) = refl
     by_options (one ∷ two ∷ others) = refl
 
-none_of : (rows : List (List Text)) (words : List Text) → IsOneOf (map (λ options. codes "run" ∷ options) rows) words → behind_gen words ≡ None
-none_of [] words is = absurd is
-none_of (options ∷ rows) words (inl is) = none_behind_gen words options is
-none_of (options ∷ rows) words (inr is) = none_of rows words is
-
 -- what stands behind `gen`
 gen_found : (words : List Text) (n : ℕ) → IsGenOf words n → behind_gen words ≡ Some (decimal n)
 gen_found words n is = subst (λ w. behind_gen w ≡ Some (decimal n)) (sym is.1) refl
@@ -37,8 +32,30 @@ none_made words n none is = by_answers none (gen_found words n is)
     by_answers a b = cc
 
 -- words that have a script made do not read one
-pub not_both : (words : List Text) (place : Text) (n : ℕ) → IsRunAt words place → IsGenOf words n → ⊥
-not_both words place n run gen = none_made words n (none_of (options_at place) words run) gen
+pub not_both : (words : List Text) (chosen : Chosen) (n : ℕ) → IsRunAs words chosen → IsGenOf words n → ⊥
+not_both words chosen n run gen = none_made words n (none_behind_gen words run.0 run.1) gen
+
+-- whether the first word is `run`
+abbrev begins_run : List Text → Bool
+begins_run [] = false
+begins_run (word ∷ words) = bytes_eq word (codes "run")
+
+-- words that have a trail audited do not run a script
+pub not_run : (words : List Text) (chosen : Chosen) → IsAudit words → IsRunAs words chosen → ⊥
+not_run words chosen audit run =
+    let first : begins_run words ≡ true = subst (λ w. begins_run w ≡ true) (sym run.1) refl in
+    let other : begins_run words ≡ false = subst (λ w. begins_run w ≡ false) (sym audit) refl in
+    differ first other
+  where
+    differ : begins_run words ≡ true → begins_run words ≡ false → ⊥
+    differ a b = cc
+
+-- nor have they one made
+pub not_made : (words : List Text) (n : ℕ) → IsAudit words → IsGenOf words n → ⊥
+not_made words n audit gen = none_made words n (subst (λ w. behind_gen w ≡ None) (sym audit) refl) gen
+
+one_choice : (o : Option Chosen) (a b : Chosen) → o ≡ Some a → o ≡ Some b → a ≡ b
+one_choice o a b x y = cc
 
 -- they have one made of one number
 pub one_number : (words : List Text) (n m : ℕ) → IsGenOf words n → IsGenOf words m → n ≡ m
@@ -46,11 +63,16 @@ one_number words n m is too = decimal_injective n m is.0 too.0 (one_word (behind
 
 -- words ask for one thing
 pub one_command : (words : List Text) (asked other : Asked) → IsCommand words asked → IsCommand words other → asked ≡ other
-one_command words (Asked.read_at place mode) (Asked.read_at there kept) is too =
-    ap (λ p. Asked.read_at p mode) (one_word (run_place words) place there (place_found words place is.0) (place_found words there too.0)) ∙ ap (Asked.read_at there) (is.1 ∙ sym too.1)
-one_command words (Asked.read_at place mode) (Asked.made_of n) is too = absurd (not_both words place n is.0 too)
-one_command words (Asked.made_of n) (Asked.read_at place mode) is too = absurd (not_both words place n too.0 is)
+one_command words (Asked.read_at place mode form) (Asked.read_at there kept text) is too =
+    is.2 ∙ ap asked_as (one_choice (run_choices words) is.0 too.0 (run_found words is.0 is.1) (run_found words too.0 too.1)) ∙ sym too.2
+one_command words (Asked.read_at place mode form) (Asked.made_of n) is too = absurd (not_both words is.0 n is.1 too)
+one_command words (Asked.read_at place mode form) Asked.audit is too = absurd (not_run words is.0 too is.1)
+one_command words (Asked.made_of n) (Asked.read_at place mode form) is too = absurd (not_both words too.0 n too.1 is)
 one_command words (Asked.made_of n) (Asked.made_of m) is too = ap Asked.made_of (one_number words n m is too)
+one_command words (Asked.made_of n) Asked.audit is too = absurd (not_made words n too is)
+one_command words Asked.audit (Asked.read_at place mode form) is too = absurd (not_run words too.0 is too.1)
+one_command words Asked.audit (Asked.made_of n) is too = absurd (not_made words n is too)
+one_command words Asked.audit Asked.audit is too = refl
 
 -- a word behind `gen` is the only one
 by_word : (word number spelled : Text) (gen : Bool) → bytes_eq word (codes "gen") ≡ gen → (if gen then Some number else None) ≡ Some spelled → word ∷ number ∷ [] ≡ codes "gen" ∷ spelled ∷ []
@@ -70,6 +92,18 @@ number_behind words spelled n found is = (is.0, gen_words words spelled found �
 pub number_spelled : (words : List Text) (spelled : Text) (n : ℕ) → behind_gen words ≡ Some spelled → IsGenOf words n → (n < 2 ^ 64) × (spelled ≡ decimal n)
 number_spelled words spelled n found is = (is.0, one_word (behind_gen words) spelled (decimal n) found (gen_found words n is))
 
+-- words that have a trail audited are one
+pub audit_words : (words : List Text) → is_audit words ≡ true → IsAudit words
+audit_words [] is = absurd cc
+audit_words (word ∷ []) is = ap (λ w. w ∷ []) ((bytes_eq-Decides word (codes "audit")).0 is)
+audit_words (word ∷ more ∷ others) is = absurd cc
+
+pub audit_found : (words : List Text) → is_audit words ≡ false → IsAudit words → ⊥
+audit_found words other is = differ other (subst (λ w. is_audit w ≡ true) (sym is) refl)
+  where
+    differ : is_audit words ≡ false → is_audit words ≡ true → ⊥
+    differ a b = cc
+
 -- WHAT IS FOUND
 
 -- what words ask for is all that they ask for
@@ -79,13 +113,14 @@ found_command words found is asked = (to, (λ too. ap Some (one_command words fo
     to : Some found ≡ Some asked → IsCommand words asked
     to e = let same : found ≡ asked = cc in subst (IsCommand words) same is
 
--- where no number stands behind `gen` and no place is named, they ask for nothing
-pub no_command : (words : List Text) → ((n : ℕ) → IsGenOf words n → ⊥) → ((place : Text) → IsRunAt words place → ⊥) → (asked : Asked) → (None ≡ Some asked) ↔ IsCommand words asked
-no_command words unmade unread asked = ((λ e. absurd (differ e)), (λ is. absurd (by_asked asked is)))
+-- where they have no trail audited, no number stands behind `gen` and nothing is chosen behind `run`, they ask for nothing
+pub no_command : (words : List Text) → (IsAudit words → ⊥) → ((n : ℕ) → IsGenOf words n → ⊥) → ((chosen : Chosen) → IsRunAs words chosen → ⊥) → (asked : Asked) → (None ≡ Some asked) ↔ IsCommand words asked
+no_command words unaudited unmade unread asked = ((λ e. absurd (differ e)), (λ is. absurd (by_asked asked is)))
   where
     differ : None ≡ Some asked → ⊥
     differ e = cc
 
     by_asked : (a : Asked) → IsCommand words a → ⊥
-    by_asked (Asked.read_at place mode) is = unread place is.0
+    by_asked (Asked.read_at place mode form) is = unread is.0 is.1
     by_asked (Asked.made_of n) is = unmade n is
+    by_asked Asked.audit is = unaudited is

@@ -24,6 +24,9 @@ exit_code (status.DiskFault disk) = 6
 exit_code (status.Image bad) = 7
 exit_code status.InDoubt = 8
 exit_code status.Memory = 9
+exit_code status.Trail = 10
+exit_code (status.Illegal entry) = 11
+exit_code (status.Unserial event) = 12
 exit_code status.Room = 14
 
 -- the word for a part of a script
@@ -84,7 +87,7 @@ image_fault (image.Epoch epoch) = codes "epoch " ++ decimal epoch
 -- the line that tells a fault; nothing where there is none, or where nothing more can be written
 abbrev pub fault_line : Status → Text
 fault_line status.Done = []
-fault_line status.Usage = codes "usage: qc run [--dir PATH] [--serial] | qc gen N\n"
+fault_line status.Usage = codes "usage: qc run [--dir PATH] [--serial] [--trail] | qc gen N | qc audit\n"
 fault_line (status.Script why) = codes "qc: script: " ++ script_fault why ++ codes "\n"
 fault_line status.ReadFault = codes "qc: read fault\n"
 fault_line status.WriteFault = []
@@ -92,4 +95,7 @@ fault_line (status.DiskFault disk) = codes "qc: disk " ++ decimal disk ++ codes 
 fault_line (status.Image bad) = codes "qc: image: disk " ++ decimal bad.disk ++ codes " " ++ image_fault bad.fault ++ codes "\n"
 fault_line status.InDoubt = []
 fault_line status.Memory = []
+fault_line status.Trail = codes "qc: trail: malformed\n"
+fault_line (status.Illegal entry) = []
+fault_line (status.Unserial event) = []
 fault_line status.Room = codes "qc: room\n"

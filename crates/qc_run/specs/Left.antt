@@ -1,5 +1,7 @@
 -- What the parts of a run keep, each said once.
 use Rattle.std.specs.Prelude.{ℕ, ◌≤◌, ◌≡◌, ◌≢◌, ◌⊎◌, List, [], length, reverse, IfSome, IsSome}
+use Rattle.qc_audit.specs.Saved.{saved_text, IsSaved}
+use Rattle.qc_config.specs.declared.tuple.Tuple.{Tuple}
 use Rattle.qc_disk.specs.Disk.{View}
 use Rattle.qc_disk.specs.Shop.{View as Shop}
 use Rattle.qc_event.specs.History.{Name, limit}
@@ -8,6 +10,7 @@ use Rattle.qc_event.specs.Tables.{base_of, setting_of}
 use Rattle.qc_event.specs.declared.event.Entry.{Entry}
 use Rattle.qc_event.specs.declared.short.Short.{Short}
 use Rattle.qc_event.specs.declared.short.Short.TheVariants as short
+use Rattle.qc_event.specs.declared.table.Table.{Table}
 use Rattle.qc_io.specs.Io.{Rose, Keeps, Appends, AppendsFront, SinkView, SourceView}
 use Rattle.qc_opening.specs.Images.{AreSound, IsFirstFault}
 use Rattle.qc_opening.specs.Refusing.{disks_in, ComeBack}
@@ -19,11 +22,13 @@ use Rattle.qc_report.specs.Report.{Text}
 use Rattle.qc_script.specs.Plan.{ScriptPlan}
 use Rattle.qc_script.specs.Reading.{IsScript, IsRefused}
 use Rattle.qc_script.specs.declared.bad_script.BadScript.TheVariants.{Memory}
+use Rattle.qc_trail_codec.specs.declared.record.SavedTrail.{SavedTrail}
 use Rattle.qc_opening.specs.Mountings.{HaveNoGrants}
 use Rattle.qc_run.specs.Run.{journal_limit, form_of, text_by, AllOffered, BeginsIn, FollowsIn, IsDiskFault, IsInDoubt, IsOrMemory, IsReported, IsTold, NoneBegun, RanToEnd, ReadsScript, RunsScript, TellsFault}
-use Rattle.qc_run.specs.Words.{place_of, IsNoCommand, IsReading}
+use Rattle.qc_run.specs.Audit.{IsAudited, MayAudit}
+use Rattle.qc_run.specs.Words.{place_of, IsAudit, IsNoCommand, IsReading}
 use Rattle.qc_run.specs.declared.finishing.Form.{Form}
-use Rattle.qc_run.specs.declared.finishing.Form.TheVariants.{Report, Summary}
+use Rattle.qc_run.specs.declared.finishing.Form.TheVariants.{Summary, Trail}
 use Rattle.qc_run.specs.declared.ran.Ran.{Ran}
 use Rattle.qc_run.specs.declared.status.Status.{Status}
 use Rattle.qc_run.specs.declared.status.Status.TheVariants as status
@@ -36,6 +41,11 @@ pub record Wrote (before now : SinkView) (answer : Status) (text : Text) : Type 
   pub none : answer ≡ status.Memory → Keeps before.taken now.taken
   pub cause : answer ≡ status.WriteFault → Rose before.faults now.faults
   pub faults : before.faults ≤ now.faults
+
+-- a trail that is written as it is saved is one that can be read
+abbrev pub IsSavedBy : Form → Table → List (List Tuple) → List Entry → Type 0
+IsSavedBy Trail table start trail = let whole : SavedTrail = record { base = start; entries = trail } in IsSaved table whole (saved_text table whole)
+IsSavedBy _ table start trail = Unit {0}
 
 -- what a session that was run may answer
 abbrev pub IsPerformed : Status → Type 0
@@ -112,6 +122,7 @@ module _ {D : Type 0} (view : D → View) (s : ScriptPlan) (shop : Shop) (place 
   -- faults is this now.
   pub record IsAnswer (form : Form) (shop_now : ℕ) (before now : SinkView) (ran : Ran D) : Type 0 where
     pub wrote : Wrote before now ran.status (text_by form s.table ran.start ran.trail)
+    pub saved : IsReported ran.status → IsSavedBy form s.table ran.start ran.trail
     pub came : WasUnmounted shop_now ran ⊎ HasRun ran
 
 -- the status of a refusal to mount, or want of memory in its place
@@ -139,18 +150,27 @@ HadNoScript words before now status.Usage = IsNoCommand words
 HadNoScript words before now status.Memory = Unit {0}
 HadNoScript words before now answer = IsReading words × IsUnread before now answer
 
+-- A trail was audited: nothing was begun and no disk was obtained, and what was answered and written is the verdict.
+pub record HasAudited {D : Type 0} (source_before source_now : SourceView) (before now : SinkView) (ran : Ran D) : Type 0 where
+  pub may : MayAudit ran.status
+  pub said : IsAudited source_before source_now before now ran.status
+  pub none : NoneBegun ran.start ran.trail
+  pub no_disks : ran.disks.items ≡ []
+  pub text : Text
+  pub wrote : Wrote before now ran.status text
+
 module _ {D : Type 0} (view : D → View) where
-  -- what is answered to bytes, over disks of a place
-  abbrev pub IsAnswerToBytes : List ℕ → Shop → Text → ℕ → SinkView → SinkView → Ran D → Type 0
-  IsAnswerToBytes bytes shop place shop_now before now ran =
+  -- what is answered to bytes, over disks of a place, where this is written of a run
+  abbrev pub IsAnswerToBytes : Form → List ℕ → Shop → Text → ℕ → SinkView → SinkView → Ran D → Type 0
+  IsAnswerToBytes form bytes shop place shop_now before now ran =
       (IsEarly before now ran × IsNoScript bytes ran.status)
-      ⊎ ((s : ScriptPlan) × IsScript bytes s × IsAnswer view s shop place Report shop_now before now ran)
+      ⊎ ((s : ScriptPlan) × IsScript bytes s × IsAnswer view s shop place form shop_now before now ran)
 
   -- what is answered where the source is to hold a script
-  abbrev pub IsAnswerToSource : SourceView → SourceView → Shop → Text → ℕ → SinkView → SinkView → Ran D → Type 0
-  IsAnswerToSource source_before source_now shop place shop_now before now ran =
+  abbrev pub IsAnswerToSource : Form → SourceView → SourceView → Shop → Text → ℕ → SinkView → SinkView → Ran D → Type 0
+  IsAnswerToSource form source_before source_now shop place shop_now before now ran =
       (IsEarly before now ran × IsUnread source_before source_now ran.status)
-      ⊎ ((s : ScriptPlan) × ReadsScript source_before.left source_now.left s × IsAnswer view s shop place Report shop_now before now ran)
+      ⊎ ((s : ScriptPlan) × ReadsScript source_before.left source_now.left s × IsAnswer view s shop place form shop_now before now ran)
 
   -- what is answered where this script is to be made, over disks of the empty place: there may be no memory for it
   abbrev pub IsAnswerToMaking : ScriptPlan → Shop → ℕ → SinkView → SinkView → Ran D → Type 0
@@ -158,9 +178,10 @@ module _ {D : Type 0} (view : D → View) where
       (IsEarly before now ran × (ran.status ≡ status.Memory))
       ⊎ IsAnswer view s shop [] Summary shop_now before now ran
 
-  -- what is answered to words
+  -- what is answered to words: there was no script, or one was run, or a trail was audited
   abbrev pub IsAnswerToWords : List (List ℕ) → SourceView → SourceView → Shop → ℕ → SinkView → SinkView → Ran D → Type 0
   IsAnswerToWords words source_before source_now shop shop_now before now ran =
-      (IsEarly before now ran × HadNoScript words source_before source_now ran.status)
+      (IsAudit words × HasAudited source_before source_now before now ran)
+      ⊎ ((IsEarly before now ran × HadNoScript words source_before source_now ran.status)
       ⊎ ((s : ScriptPlan) × ((it : RunsScript words source_before.left source_now.left s)
-      × IsAnswer view s shop (place_of it.asked) (form_of it.asked) shop_now before now ran))
+      × IsAnswer view s shop (place_of it.asked) (form_of it.asked) shop_now before now ran)))

@@ -1,7 +1,16 @@
--- How a place is found among the words behind `run`, and the number behind `gen`.
-use Rattle.std.specs.Prelude.{◌==◌, ◌&&◌, Bool, List, [], ◌∷◌, codes, if◌then◌else◌, Option, None, Some, option_and_then}
+-- How the options behind `run` are read, one word after another, and the number behind `gen`.
+use Rattle.std.specs.Prelude.{◌==◌, Bool, true, false, List, [], ◌∷◌, codes, if◌then◌else◌, Option, None, Some, option_and_then, option_map}
 use Rattle.std.specs.Str.{bytes_eq}
-use Rattle.qc_run.specs.Words.{Text, is_serial}
+use Rattle.qc_run.specs.Words.{Text, Choice, Chosen, nothing_chosen, is_first, and_this}
+
+abbrev pub is_serial : Text → Bool
+is_serial word = bytes_eq word (codes "--serial")
+
+abbrev pub is_trail : Text → Bool
+is_trail word = bytes_eq word (codes "--trail")
+
+abbrev pub is_dir : Text → Bool
+is_dir word = bytes_eq word (codes "--dir")
 
 -- the place that a word names
 abbrev pub named : Text → Option Text
@@ -18,30 +27,39 @@ behind (b ∷ front) (c ∷ word) = if b == c then behind front word else None
 abbrev pub joined : Text → Option Text
 joined word = option_and_then named (behind (codes "--dir=") word)
 
-abbrev pub is_dir : Text → Bool
-is_dir word = bytes_eq word (codes "--dir")
+-- the choice that one word makes alone
+abbrev pub choice_in : Text → Option Choice
+choice_in word =
+    if is_serial word then Some Choice.in_order
+    else if is_trail word then Some Choice.saved
+    else option_map (λ place. Choice.at place) (joined word)
 
--- the place of a run, by what stands behind `run`
-abbrev pub place_in : List Text → Option Text
-place_in [] = Some []
-place_in (one ∷ []) = if is_serial one then Some [] else joined one
-place_in (one ∷ two ∷ []) =
-    if is_dir one then named two
-    else if is_serial one then joined two
-    else if is_serial two then joined one
-    else None
-place_in (one ∷ two ∷ three ∷ []) =
-    if is_serial one && is_dir two then named three
-    else if is_dir one && is_serial three then named two
-    else None
-place_in _ = None
+-- a choice is made, where there is one and none of its kind was
+abbrev pub with_choice : Chosen → Option Choice → Option Chosen
+with_choice chosen None = None
+with_choice chosen (Some choice) = if is_first chosen choice then Some (and_this chosen choice) else None
 
--- the place at which words run a script that is read
-abbrev pub run_place : List Text → Option Text
-run_place [] = None
-run_place (word ∷ options) = if bytes_eq word (codes "run") then place_in options else None
+-- what words choose beside what was chosen, and whether the word before them was `--dir`
+abbrev pub chosen_by : Bool → Option Chosen → List Text → Option Chosen
+chosen_by after_dir None words = None
+chosen_by true (Some chosen) [] = None
+chosen_by false (Some chosen) [] = Some chosen
+chosen_by true (Some chosen) (word ∷ words) = chosen_by false (with_choice chosen (option_map (λ place. Choice.at place) (named word))) words
+chosen_by false (Some chosen) (word ∷ words) =
+    if is_dir word then chosen_by true (Some chosen) words
+    else chosen_by false (with_choice chosen (choice_in word)) words
+
+-- what is chosen behind `run`
+abbrev pub run_choices : List Text → Option Chosen
+run_choices [] = None
+run_choices (word ∷ options) = if bytes_eq word (codes "run") then chosen_by false (Some nothing_chosen) options else None
 
 -- the word behind `gen`, where it is the only one
 abbrev pub behind_gen : List Text → Option Text
 behind_gen (word ∷ number ∷ []) = if bytes_eq word (codes "gen") then Some number else None
 behind_gen _ = None
+
+-- whether one word alone is `audit`
+abbrev pub is_audit : List Text → Bool
+is_audit (word ∷ []) = bytes_eq word (codes "audit")
+is_audit _ = false

@@ -1,6 +1,7 @@
 -- What a run answers: words for the clauses of the top call.
 use Rattle.std.specs.Prelude.{ℕ, ◌+◌, ◌^◌, ◌≡◌, ◌≢◌, ◌⊎◌, true, IsTrue, List, [], length, reverse, slice_get, Option, None, Some, IfSome, is_some}
 use Rattle.std.specs.List.{list_all}
+use Rattle.qc_audit.specs.Saved.{saved_text}
 use Rattle.qc_config.specs.declared.tuple.Tuple.{Tuple}
 use Rattle.qc_disk.specs.Disk.{View, Rose as DiskRose}
 use Rattle.qc_event.specs.History.{Past, Name, end, is_ready}
@@ -19,9 +20,9 @@ use Rattle.qc_script.specs.Reading.{IsScript, IsRefused}
 use Rattle.qc_script.specs.declared.bad_script.BadScript.TheVariants.{Memory}
 use Rattle.qc_serial.specs.Serial.{IsSerialThroughout, final_values}
 use Rattle.qc_run.specs.FaultLine.{fault_line}
-use Rattle.qc_run.specs.Words.{Asked, IsCommand, IsReading}
+use Rattle.qc_run.specs.Words.{Asked, IsAudit, IsCommand, IsReading}
 use Rattle.qc_run.specs.declared.finishing.Form.{Form}
-use Rattle.qc_run.specs.declared.finishing.Form.TheVariants.{Report, Summary}
+use Rattle.qc_run.specs.declared.finishing.Form.TheVariants.{Report, Summary, Trail}
 use Rattle.qc_run.specs.declared.ran.Ran.{Ran}
 use Rattle.qc_run.specs.declared.status.Status.{Status}
 use Rattle.qc_run.specs.declared.status.Status.TheVariants as status
@@ -33,6 +34,11 @@ journal_limit = 2 ^ 40
 -- one byte more than the longest script
 abbrev pub most_taken : ℕ
 most_taken = 2 ^ 20 + 1
+
+-- the most bytes that are taken of the source, by what is asked for: one more than the longest script has, or the longest trail
+abbrev pub most_taken_for : Asked → ℕ
+most_taken_for Asked.audit = 2 ^ 24 + 1
+most_taken_for _ = most_taken
 
 -- THE SCRIPT
 
@@ -60,8 +66,9 @@ pub record ReadsScript (before now : Option (List ℕ)) (s : ScriptPlan) : Type 
 -- What was asked for is to run this script: the one that the source held, and it was read; or the one that is made of a
 -- number.
 abbrev pub IsScriptOf : Option (List ℕ) → Option (List ℕ) → ScriptPlan → Asked → Type 0
-IsScriptOf before now s (Asked.read_at place mode) = ReadsScript before now s
+IsScriptOf before now s (Asked.read_at place mode form) = ReadsScript before now s
 IsScriptOf before now s (Asked.made_of n) = s ≡ made_plan n
+IsScriptOf before now s Asked.audit = ⊥
 
 -- These words are a command, and this is the script that it runs.
 pub record RunsScript (words : List Text) (before now : Option (List ℕ)) (s : ScriptPlan) : Type 0 where
@@ -79,8 +86,9 @@ NoneBegun start trail = (start ≡ []) × (trail ≡ [])
 
 -- What is asked for is to run this script: the one that all bytes of the source are, or the one that is made of a number.
 abbrev pub IsScriptFor : Option (List ℕ) → ScriptPlan → Asked → Type 0
-IsScriptFor left s (Asked.read_at place mode) = (bytes : List ℕ) × (left ≡ Some bytes) × IsScript bytes s
+IsScriptFor left s (Asked.read_at place mode form) = (bytes : List ℕ) × (left ≡ Some bytes) × IsScript bytes s
 IsScriptFor left s (Asked.made_of n) = s ≡ made_plan n
+IsScriptFor left s Asked.audit = ⊥
 
 -- These words are a command, over a source that holds this, and this is the script that it is to run.
 pub record AsksFor (words : List Text) (left : Option (List ℕ)) (s : ScriptPlan) : Type 0 where
@@ -102,19 +110,18 @@ HasSerialValues table start trail =
     (values : List ℕ) → IsSound (setting_of table start) values → length values ≡ length table.records
     → values_by_version start (reverse trail) (length table.records) ≡ final_values values (reverse trail)
 
--- what is written of a history with these last values, by its form
-abbrev pub text_in : Form → Table → List ℕ → List Entry → Text
-text_in Report table values trail = report table values trail
-text_in Summary table values trail = summary table values trail
-
--- the same, where the last values go by versions
+-- what is written of a history, by its form: a report or a summary with the last values, which go by versions, or all of it,
+-- as it is saved
 abbrev pub text_by : Form → Table → List (List Tuple) → List Entry → Text
-text_by form table start trail = text_in form table (values_by_version start (reverse trail) (length table.records)) trail
+text_by Report table start trail = report table (values_by_version start (reverse trail) (length table.records)) trail
+text_by Summary table start trail = summary table (values_by_version start (reverse trail) (length table.records)) trail
+text_by Trail table start trail = saved_text table (record { base = start; entries = trail })
 
--- a script that is read is reported, one that is made is summed up
+-- one that is made is summed up; of one that is read is written what was asked for
 abbrev pub form_of : Asked → Form
-form_of (Asked.read_at place mode) = Report
+form_of (Asked.read_at place mode form) = form
 form_of (Asked.made_of n) = Summary
+form_of Asked.audit = Report
 
 -- a top is in doubt: it is ready, and has no end
 pub record IsInDoubt (past : Past) (top : Name) : Type 0 where
@@ -181,6 +188,7 @@ BeganNothing (status.Script e) = Unit {0}
 BeganNothing status.ReadFault = Unit {0}
 BeganNothing (status.DiskFault which) = Unit {0}
 BeganNothing (status.Image bad) = Unit {0}
+BeganNothing status.Trail = Unit {0}
 BeganNothing _ = ⊥
 
 -- no store was mounted
@@ -199,9 +207,9 @@ abbrev pub IsScriptFault : List Text → Option (List ℕ) → Status → Type 0
 IsScriptFault words left (status.Script e) = IsReading words × IfSome left (λ bytes. IsRefused bytes e) × (e ≢ Memory)
 IsScriptFault words left _ = Unit {0}
 
--- a script was read, and the source failed
+-- a script was read, or a trail, and the source failed
 abbrev pub IsReadFault : List Text → ℕ → ℕ → Type 0
-IsReadFault words before now = IsReading words × Rose before now
+IsReadFault words before now = (IsReading words ⊎ IsAudit words) × Rose before now
 
 -- what may be answered to a command that reads a script, over bytes that are none
 abbrev pub IsNoRun : Status → Type 0
@@ -239,9 +247,13 @@ pub record HadNoSession {D : Type 0} (ran : Ran D) : Type 0 where
   pub other : HadSession ran.status → ⊥
   pub none : NoneBegun ran.start ran.trail
 
+-- it is so, unless the words have a trail audited
+abbrev pub UnlessAudit : List Text → Type 0 → Type 0
+UnlessAudit words IsSo = IsAudit words ⊎ IsSo
+
 -- no session was begun, or there is a script that the words run, and it is so of it
 abbrev pub OfRun : {D : Type 0} → List Text → Option (List ℕ) → Option (List ℕ) → Ran D → (ScriptPlan → Type 0) → Type 0
-OfRun words before now ran IsSo = HadNoSession ran ⊎ OfScript words before now IsSo
+OfRun words before now ran IsSo = UnlessAudit words (HadNoSession ran ⊎ OfScript words before now IsSo)
 
 -- the words ran no script, or none was found
 abbrev pub HadNone : Status → Type 0

@@ -1,6 +1,7 @@
 //! Runs a script of sessions over a replicated record store, and reports what happened.
 #![tactic(auto)]
 
+mod auditing;
 mod finishing;
 mod making;
 mod performing;

@@ -13,10 +13,12 @@ ghost use Rattle.qc_script.specs.Plan.{ScriptPlan};
 ghost use Rattle.qc_script.specs.Reading.{IsScript};
 ghost use Rattle.qc_opening.specs.Mountings.{HaveNoGrants};
 ghost use Rattle.qc_codec.specs.declared.image.BadImage.{BadImage};
+ghost use Rattle.qc_run.specs.Audit as audits;
 ghost use Rattle.qc_run.specs.Left as left;
 ghost use Rattle.qc_run.specs.Run as terms;
 ghost use Rattle.qc_run.specs.Words as line;
 
+use crate::auditing::audit_source;
 use crate::io::{Sink, Source};
 use crate::making::make;
 use crate::ran::Ran;
@@ -53,9 +55,12 @@ where
     ensures source_taken { line.IsReading (map string_bytes words.now)
         → terms.ReadWhole result.status
         → Drops (S.view source.old).left (S.view source.new).left terms.most_taken }
-    ensures source_within { LosesWithin (S.view source.old).left (S.view source.new).left
-        terms.most_taken }
+    ensures source_within { line.AsAsked (map string_bytes words.now) (λ asked. LosesWithin
+        (S.view source.old).left (S.view source.new).left (terms.most_taken_for asked)) }
     ensures source_left { line.IsMaking (map string_bytes words.now) → source.new ≡ source.old }
+    ensures audited { line.IsAudit (map string_bytes words.now)
+        → left.HasAudited (S.view source.old) (S.view source.new) (K.view sink.old)
+        (K.view sink.new) result × (shop.new ≡ shop.old) }
     ensures disks { (p : List ℕ) (n : ℕ) → length result.disks.items ≤ n
         → TellsAlike (H.view shop.old) (H.view shop.new) p n }
     ensures gave { line.AtPlace (map string_bytes words.now) (λ place.
@@ -64,10 +69,11 @@ where
     ensures shop_faults { (H.view shop.old).faults ≤ (H.view shop.new).faults }
 {
     match command_of(words) {
-        Some(Command::Run { place, mode }) => {
-            read(rt, alloc, place, mode, source, sink, shop, gate)
+        Some(Command::Run { place, mode, form }) => {
+            read(rt, alloc, place, mode, form, source, sink, shop, gate)
         }
         Some(Command::Gen { number }) => make(rt, alloc, number, sink, shop, gate),
+        Some(Command::Audit) => audit_source(alloc, source, sink),
         None => refuse(alloc, Status::Usage, Vec::new(alloc), sink),
     }
 }
@@ -75,10 +81,11 @@ where
 /// Does what the words of the command line say, over these streams and this shop: `run` reads a script from
 /// the source, runs its sessions over the copies of its records, whose disks it obtains from the shop at the
 /// place that `--dir` names, by a network that loses, delays and repeats requests as the script says, and
-/// writes the report. Sessions run in threads of their own, or one after another with `--serial`; each passes
-/// the gate before its first top. `gen` with a number makes the script of that number, and leaves the source alone; it
-/// runs that script likewise, one session after another, over the disks of the place without a name, and writes the
-/// summary. All other words are refused with the usage line.
+/// writes the report, or with `--trail` the saved trail. Sessions run in threads of their own, or one after
+/// another with `--serial`; each passes the gate before its first top. `gen` with a number makes the script of
+/// that number, and leaves the source alone; it runs that script likewise, one session after another, over the
+/// disks of the place without a name, and writes the summary. `audit` reads a saved trail from the source, and
+/// writes whether its history is legal, and its serial order. All other words are refused with the usage line.
 ///
 /// Whatever it answers, its history is legal, with the requests to copies and their grants in it, and the
 /// serial machine with one value per record accepts the order that completion gives it, in which every user
@@ -126,12 +133,12 @@ where
         (S.view source.new).left result
         (λ s. terms.Begins s result.trail) }
     ensures follows_script { terms.RanToEnd result.status
-        → terms.OfScript (map string_bytes words.now) (S.view source.old).left
-        (S.view source.new).left
-        (λ s. terms.Follows s result.trail) }
+        → terms.UnlessAudit (map string_bytes words.now) (terms.OfScript
+        (map string_bytes words.now) (S.view source.old).left (S.view source.new).left
+        (λ s. terms.Follows s result.trail)) }
     ensures started { terms.HadScript result.status
-        → terms.OfScript (map string_bytes words.now) (S.view source.old).left
-        (S.view source.new).left (λ _. ⊤) }
+        → terms.UnlessAudit (map string_bytes words.now) (terms.OfScript
+        (map string_bytes words.now) (S.view source.old).left (S.view source.new).left (λ _. ⊤)) }
 
     // Who was in doubt when the sessions had run to their end.
     ensures in_doubt { result.status ≡ Status.InDoubt
@@ -217,22 +224,35 @@ where
 
     // The bytes written are the report, or the summary where the script was made; a front of it, a fault's line, or none.
     ensures output { terms.IsReported result.status
-        → terms.OfScript (map string_bytes words.now) (S.view source.old).left
-        (S.view source.new).left
+        → terms.UnlessAudit (map string_bytes words.now) (terms.OfScript
+        (map string_bytes words.now) (S.view source.old).left (S.view source.new).left
         (λ s. line.AsAsked (map string_bytes words.now) (λ asked. Appends
         (K.view sink.old).taken (K.view sink.new).taken
-        (terms.text_by (terms.form_of asked) s.table result.start result.trail))) }
+        (terms.text_by (terms.form_of asked) s.table result.start result.trail)))) }
     ensures output_front { result.status ≡ Status.WriteFault
-        → terms.OfScript (map string_bytes words.now) (S.view source.old).left
-        (S.view source.new).left
+        → terms.UnlessAudit (map string_bytes words.now) (terms.OfScript
+        (map string_bytes words.now) (S.view source.old).left (S.view source.new).left
         (λ s. line.AsAsked (map string_bytes words.now) (λ asked. AppendsFront
         (K.view sink.old).taken (K.view sink.new).taken
-        (terms.text_by (terms.form_of asked) s.table result.start result.trail))) }
+        (terms.text_by (terms.form_of asked) s.table result.start result.trail)))) }
     ensures output_line { terms.IsTold result.status
         → terms.TellsFault (K.view sink.old).taken (K.view sink.new).taken
         (K.view sink.old).faults (K.view sink.new).faults result.status }
     ensures output_none { result.status ≡ Status.Memory
         → Keeps (K.view sink.old).taken (K.view sink.new).taken }
+
+    // A trail that is saved can be read again. An audit begins nothing and takes no disk: it answers, and writes, what is so
+    // of the trail that the source held.
+    ensures saved { terms.IsReported result.status → terms.UnlessAudit (map string_bytes words.now)
+        (terms.OfScript (map string_bytes words.now) (S.view source.old).left
+        (S.view source.new).left (λ s. line.AsAsked (map string_bytes words.now)
+        (λ asked. left.IsSavedBy (terms.form_of asked) s.table result.start result.trail))) }
+    ensures audited { line.IsAudit (map string_bytes words.now)
+        → audits.IsAudited (S.view source.old) (S.view source.new) (K.view sink.old)
+        (K.view sink.new) result.status }
+    ensures audit_alone { line.IsAudit (map string_bytes words.now)
+        → terms.NoneBegun result.start result.trail × (result.disks.items ≡ [])
+        × (shop.new ≡ shop.old) }
 
     // When each status comes.
     ensures usage { result.status ≡ Status.Usage
@@ -269,11 +289,11 @@ where
         → AreSound s.table terms.journal_limit images
         → (bad : BadImage) → result.status ≡ Status.Image bad → ⊥) }
     ensures mounted_images { terms.HadSession result.status
-        → terms.OfScript (map string_bytes words.now) (S.view source.old).left
-        (S.view source.new).left
+        → terms.UnlessAudit (map string_bytes words.now) (terms.OfScript
+        (map string_bytes words.now) (S.view source.old).left (S.view source.new).left
         (λ s. line.AtPlace (map string_bytes words.now) (λ place. (images : List (List ℕ))
         → terms.AllOffered s.table ((H.view shop.old).offers place) images
-        → AreSound s.table terms.journal_limit images)) }
+        → AreSound s.table terms.journal_limit images))) }
     ensures room { result.status ≡ Status.Room → length result.trail ≡ limit }
     ensures source_faults { (S.view source.old).faults ≤ (S.view source.new).faults }
     ensures sink_faults { (K.view sink.old).faults ≤ (K.view sink.new).faults }
@@ -284,8 +304,8 @@ where
     ensures source_taken { line.IsReading (map string_bytes words.now)
         → terms.ReadWhole result.status
         → Drops (S.view source.old).left (S.view source.new).left terms.most_taken }
-    ensures source_within { LosesWithin (S.view source.old).left (S.view source.new).left
-        terms.most_taken }
+    ensures source_within { line.AsAsked (map string_bytes words.now) (λ asked. LosesWithin
+        (S.view source.old).left (S.view source.new).left (terms.most_taken_for asked)) }
     ensures source_left { line.IsMaking (map string_bytes words.now) → source.new ≡ source.old }
 
     // A script is run, where no stream fails, as far as there is memory and room, or a disk or an image is refused.

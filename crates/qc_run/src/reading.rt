@@ -40,10 +40,11 @@ fn over<R: Threads + Wait + Sync, K: Sink, H: Shop, G: Gate + Sync>(
     shop: &mut H,
     gate: &G,
     mode: Mode,
+    form: Form,
 ) -> Ran<H::D>
 where
     H::D: Drop + Send,
-    ensures answer { left.IsAnswerToBytes H.D.view bytes.items
+    ensures answer { left.IsAnswerToBytes H.D.view form bytes.items
         (H.view shop.old) place.now (H.view shop.new).faults
         (K.view sink.old) (K.view sink.new) result }
     ensures disks { (p : List ℕ) (n : ℕ) → length result.disks.items ≤ n
@@ -55,29 +56,20 @@ where
     match script_of(alloc, bytes) {
         Ok(script) => {
             is_spelled(&script);
-            perform(
-                rt,
-                alloc,
-                place,
-                &script,
-                sink,
-                shop,
-                gate,
-                mode,
-                Form::Report,
-            )
+            perform(rt, alloc, place, &script, sink, shop, gate, mode, form)
         }
         Err(BadScript::Memory) => nothing(alloc, Status::Memory, Vec::new(alloc)),
         Err(bad) => refuse(alloc, Status::Script(bad), Vec::new(alloc), sink),
     }
 }
 
-/// Reads a script from the source, runs it over the disks of a place, and writes the report.
+/// Reads a script from the source, runs it over the disks of a place, and writes of it in this form.
 pub(crate) fn read<R: Threads + Wait + Sync, S: Source, K: Sink, H: Shop, G: Gate + Sync>(
     rt: &R,
     alloc: Global,
     place: &str,
     mode: Mode,
+    form: Form,
     source: &mut S,
     sink: &mut K,
     shop: &mut H,
@@ -85,7 +77,7 @@ pub(crate) fn read<R: Threads + Wait + Sync, S: Source, K: Sink, H: Shop, G: Gat
 ) -> Ran<H::D>
 where
     H::D: Drop + Send,
-    ensures answer { left.IsAnswerToSource H.D.view (S.view source.old) (S.view source.new)
+    ensures answer { left.IsAnswerToSource H.D.view form (S.view source.old) (S.view source.new)
         (H.view shop.old) place.now (H.view shop.new).faults
         (K.view sink.old) (K.view sink.new) result }
     ensures source_faults { (S.view source.old).faults ≤ (S.view source.new).faults }
@@ -100,7 +92,7 @@ where
     ensures shop_faults { (H.view shop.old).faults ≤ (H.view shop.new).faults }
 {
     match take_all(alloc, source, MOST_BYTES) {
-        Ok(bytes) => over(rt, alloc, place, bytes, sink, shop, gate, mode),
+        Ok(bytes) => over(rt, alloc, place, bytes, sink, shop, gate, mode, form),
         Err(Untaken::Failed) => refuse(alloc, Status::ReadFault, Vec::new(alloc), sink),
         Err(Untaken::Memory) => nothing(alloc, Status::Memory, Vec::new(alloc)),
     }

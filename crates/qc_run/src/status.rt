@@ -29,6 +29,14 @@ pub enum Status {
     InDoubt,
     /// There was no memory.
     Memory,
+    /// The input is no saved trail.
+    Trail,
+    /// The saved history is not legal: its entry at this place, counted from 0, is the first that those before it do
+    /// not allow.
+    Illegal(u64),
+    /// The saved history is legal, and the serial machine refuses the order that completion gives it, first at the
+    /// event of this place, counted from 0.
+    Unserial(u64),
     /// The history had no room for a further entry.
     Room,
 }
@@ -50,6 +58,9 @@ impl Status {
             Status::Image(_) => 7,
             Status::InDoubt => 8,
             Status::Memory => 9,
+            Status::Trail => 10,
+            Status::Illegal(_) => 11,
+            Status::Unserial(_) => 12,
             Status::Room => 14,
         }
     }
@@ -58,15 +69,25 @@ impl Status {
 /// The line that tells that the history had no room.
 pub(crate) const ROOM_LINE: &[u8] = b"qc: room\n";
 
-/// The line that tells a fault, with its newline. A run that has a report has none, nor has one that
-/// could not write or had no memory.
+/// The line that tells a fault, with its newline. A run that has a report and an audit that has a verdict have none,
+/// nor has what could not write or had no memory.
 pub fn fault_line(alloc: Global, status: &Status) -> Result<Vec<u8>, AllocError>
     ensures { IfOk result (λ text. text.items ≡ spec.fault_line status.now) }
 {
     let mut page = Page::new(alloc);
     match status {
-        Status::Done | Status::WriteFault | Status::InDoubt | Status::Memory => {}
-        Status::Usage => write!(page, "usage: qc run [--dir PATH] [--serial] | qc gen N\n")?,
+        Status::Done
+        | Status::WriteFault
+        | Status::InDoubt
+        | Status::Memory
+        | Status::Illegal(_)
+        | Status::Unserial(_) => {}
+        Status::Usage => {
+            write!(
+                page,
+                "usage: qc run [--dir PATH] [--serial] [--trail] | qc gen N | qc audit\n"
+            )?
+        }
         Status::Script(why) => {
             write!(page, "qc: script: ")?;
             push_script_fault(&mut page, why)?;
@@ -80,6 +101,7 @@ pub fn fault_line(alloc: Global, status: &Status) -> Result<Vec<u8>, AllocError>
             push_image_fault(&mut page, &bad.fault)?;
             write!(page, "\n")?;
         }
+        Status::Trail => write!(page, "qc: trail: malformed\n")?,
         Status::Room => write!(page, "qc: room\n")?,
     }
     Ok(page.into_bytes())

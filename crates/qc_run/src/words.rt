@@ -1,20 +1,44 @@
 //! The words of the command line.
-ghost use Rattle.std.specs.Prelude.{ℕ, ◌≡◌, ◌↔◌, ◌<◌, ◌^◌, List, Some, codes, map, option_map, string_bytes};
+ghost use Rattle.std.specs.Prelude.{ℕ, ◌≡◌, ◌↔◌, ◌<◌, ◌^◌, Some, codes, map, option_map, string_bytes};
 ghost use Rattle.std.specs.Fmt.{decimal};
-ghost use Rattle.std.specs.List.{list_any};
-ghost use Rattle.qc_run.specs.Commands.{asked_by};
+ghost use Rattle.qc_run.specs.Commands.{asked_by, choice_by, chosen_in};
 ghost use Rattle.qc_run.specs.Options as found;
 ghost use Rattle.qc_run.specs.Words as line;
 
+use crate::finishing::Form;
 use itoa::Buffer;
 use qc_interp::Mode;
 
 /// What the words of the command line ask for: to run the script that the source holds, over the disks of a place and
-/// in this mode; or to run one that is made of a number.
+/// in this mode, and to write this of it; to run one that is made of a number; or to audit the trail that the source
+/// holds.
 #[derive(Clone, Copy)]
 pub(crate) enum Command<'w> {
-    Run { place: &'w str, mode: Mode },
-    Gen { number: u64 },
+    Run {
+        place: &'w str,
+        mode: Mode,
+        form: Form,
+    },
+    Gen {
+        number: u64,
+    },
+    Audit,
+}
+
+/// What an option behind `run` chooses.
+#[derive(Clone, Copy)]
+pub(crate) enum Choice<'w> {
+    Serial,
+    Trail,
+    Dir(&'w str),
+}
+
+/// What the options behind `run` choose.
+#[derive(Clone, Copy)]
+pub(crate) struct Options<'w> {
+    serial: bool,
+    trail: bool,
+    place: Option<&'w str>,
 }
 
 // The place that a word names.
@@ -41,70 +65,118 @@ fn joined(word: &str) -> Option<&str>
     named(behind(word)?)
 }
 
-// The place of a run, by what stands behind `run`.
-fn place_in(options: &[String]) -> Option<&str>
-    ensures { option_map (λ place. place.now) result
-        ≡ found.place_in (map string_bytes options.now) }
+// The choice that one word makes alone.
+fn choice_in(word: &str) -> Option<Choice<'_>>
+    ensures { option_map choice_by result ≡ found.choice_in word.now }
 {
-    match options {
-        [] => Some(""),
-        [one] if one.as_str() == "--serial" => Some(""),
-        [one] => joined(one.as_str()),
-        [one, two] if one.as_str() == "--dir" => named(two.as_str()),
-        [one, two] if one.as_str() == "--serial" => joined(two.as_str()),
-        [one, two] if two.as_str() == "--serial" => joined(one.as_str()),
-        [one, two, three] if one.as_str() == "--serial" && two.as_str() == "--dir" => {
-            named(three.as_str())
-        }
-        [one, two, three] if one.as_str() == "--dir" && three.as_str() == "--serial" => {
-            named(two.as_str())
-        }
-        _ => None,
+    match word {
+        "--serial" => Some(Choice::Serial),
+        "--trail" => Some(Choice::Trail),
+        _ => Some(Choice::Dir(joined(word)?)),
     }
 }
 
-// The place of a run.
-fn run_place(words: &[String]) -> Option<&str>
-    ensures { option_map (λ place. place.now) result
-        ≡ found.run_place (map string_bytes words.now) }
+impl<'w> Options<'w> {
+    // With a choice, where none of its kind was made.
+    fn with(self, choice: Choice<'w>) -> Option<Self>
+        ensures { option_map chosen_in result
+            ≡ found.with_choice (chosen_in self.entry) (Some (choice_by choice.entry)) }
+    {
+        match choice {
+            Choice::Serial if !self.serial => Some(Options {
+                serial: true,
+                ..self
+            }),
+            Choice::Trail if !self.trail => Some(Options {
+                trail: true,
+                ..self
+            }),
+            Choice::Dir(place) if self.place.is_none() => Some(Options {
+                place: Some(place),
+                ..self
+            }),
+            _ => None,
+        }
+    }
+
+    // With the place that stands behind `--dir`.
+    fn at(self, word: &'w str) -> Option<Self>
+        ensures { option_map chosen_in result ≡ found.with_choice (chosen_in self.entry)
+            (option_map (λ place. line.Choice.at place) (found.named word.now)) }
+    {
+        self.with(Choice::Dir(named(word)?))
+    }
+
+    // With the choice of a word that makes one alone.
+    fn and(self, word: &'w str) -> Option<Self>
+        ensures { option_map chosen_in result
+            ≡ found.with_choice (chosen_in self.entry) (found.choice_in word.now) }
+    {
+        self.with(choice_in(word)?)
+    }
+}
+
+// What words choose beside what was chosen, and whether the word before them was `--dir`.
+fn options_in<'w>(words: &'w [String], after_dir: bool, options: Options<'w>) -> Option<Options<'w>>
+    ensures { option_map chosen_in result ≡ found.chosen_by after_dir
+        (Some (chosen_in options.entry)) (map string_bytes words.now) }
 {
     match words {
-        [word, options @ ..] if word.as_str() == "run" => place_in(options),
+        [] if after_dir => None,
+        [] => Some(options),
+        [word, rest @ ..] if after_dir => options_in(rest, false, options.at(word.as_str())?),
+        [word, rest @ ..] if word.as_str() == "--dir" => options_in(rest, true, options),
+        [word, rest @ ..] => options_in(rest, false, options.and(word.as_str())?),
+    }
+}
+
+// What is chosen behind `run`.
+fn run_options(words: &[String]) -> Option<Options<'_>>
+    ensures { option_map chosen_in result ≡ found.run_choices (map string_bytes words.now) }
+{
+    match words {
+        [word, options @ ..] if word.as_str() == "run" => options_in(
+            options,
+            false,
+            Options {
+                serial: false,
+                trail: false,
+                place: None,
+            },
+        ),
         _ => None,
     }
 }
 
-// The place at which these words run a script that is read: `run`, and behind it, in either order and each at
-// most once, `--serial` and a place, which is named by `--dir` and it, or by `--dir=` with it behind.
-// Where none is named it is empty.
-fn place_of_run(words: &[String]) -> Option<&str>
-    ensures { (place : List ℕ) → (option_map (λ p. p.now) result ≡ Some place)
-        ↔ line.IsRunAt (map string_bytes words.now) place }
+// What is chosen behind `run`: in any order and each at most once `--serial`, `--trail`, and a place, which is named by
+// `--dir` and it, or by `--dir=` with it behind.
+fn options_of_run(words: &[String]) -> Option<Options<'_>>
+    ensures { (chosen : line.Chosen) → (option_map chosen_in result ≡ Some chosen)
+        ↔ line.IsRunAs (map string_bytes words.now) chosen }
 {
-    run_place(words)
+    run_options(words)
 }
 
-// Whether a word asks for order.
-fn is_serial(word: &String) -> bool
-    ensures { result ≡ line.is_serial (string_bytes word.now) }
+fn mode_by(serial: bool) -> Mode
+    ensures { result ≡ line.mode_by serial }
 {
-    word.as_str() == "--serial"
+    if serial { Mode::Serial } else { Mode::Threads }
 }
 
-fn any_serial(words: &[String]) -> bool
-    ensures { result ≡ list_any (λ word. line.is_serial (string_bytes word)) words.now }
+fn form_by(trail: bool) -> Form
+    ensures { result ≡ line.form_by trail }
 {
-    words.iter().any(|word| is_serial(word))
+    if trail { Form::Trail } else { Form::Report }
 }
 
-// In order where one of the words is `--serial`, else in threads.
-fn mode_of(words: &[String]) -> Mode
-    ensures { result ≡ line.mode_of (map string_bytes words.now) }
+// What is asked for with these options.
+fn run_with(options: Options<'_>) -> Command<'_>
+    ensures { asked_by result ≡ line.asked_as (chosen_in options.entry) }
 {
-    if any_serial(words) {
-        Mode::Serial
-    } else {
-        Mode::Threads
+    Command::Run {
+        place: options.place.unwrap_or(""),
+        mode: mode_by(options.serial),
+        form: form_by(options.trail),
     }
 }
 
@@ -141,15 +213,26 @@ fn number_of_gen(words: &[String]) -> Option<u64>
     number_in(behind_gen(words)?)
 }
 
+// Whether they have a saved trail audited.
+fn is_audit(words: &[String]) -> bool
+    ensures { result ≡ found.is_audit (map string_bytes words.now) }
+{
+    match words {
+        [word] => word.as_str() == "audit",
+        _ => false,
+    }
+}
+
 /// The command that these words are.
 pub(crate) fn command_of(words: &[String]) -> Option<Command<'_>>
     ensures { (asked : line.Asked) → (option_map asked_by result ≡ Some asked)
         ↔ line.IsCommand (map string_bytes words.now) asked }
 {
+    if is_audit(words) {
+        return Some(Command::Audit);
+    }
     if let Some(number) = number_of_gen(words) {
         return Some(Command::Gen { number });
     }
-    let place = place_of_run(words)?;
-    let mode = mode_of(words);
-    Some(Command::Run { place, mode })
+    Some(run_with(options_of_run(words)?))
 }

@@ -1,8 +1,9 @@
 use Rattle.std.proofs.Common.{sym, inl, inr}
 use Rattle.std.proofs.lemmas.Bool.{true≢false}
 use Rattle.std.specs.Prelude.{Result, Ok, Err, OnOk, IsOk}
-use Rattle.qc_event.specs.Tables.{setting_of}
+use Rattle.qc_opening.proofs.Proper.{setting_proper}
 use Rattle.qc_script.specs.Steps.{plan_of_script}
+use Rattle.qc_run.proofs.Clauses.{reported_ran, unmounted_not_ran}
 use Rattle.qc_run.proofs.Refusals.{why}
 use Rattle.qc_run.proofs.performing.perform.Goals as goal
 
@@ -10,10 +11,11 @@ on_ok : {T E : Type 0} (r : Result T E) (P : Type 0) → IsOk r → OnOk r P →
 on_ok (Ok x) P is has = has
 on_ok (Err e) P is has = absurd (true≢false (sym is))
 
-pub finish-status-requires-clause-legal : goal.finish-status-requires-clause-legal
-finish-status-requires-clause-legal g c =
-    let setting = setting_of c.args.script.now.table c.in-Ok.stored.ended.start in
-    (setting, c.in-Ok.ensures.legal)
+pub finish-status-requires-clause-proper : goal.finish-status-requires-clause-proper
+finish-status-requires-clause-proper g c = setting_proper (plan_of_script c.args.script.now) c.requires.proper _ _ _ _ c.in-Ok.ensures.grown.mounted
+
+pub finish-status-requires-clause-as_many : goal.finish-status-requires-clause-as_many
+finish-status-requires-clause-as_many g c = c.in-Ok.ensures.grown.mounted.as_many
 
 pub returns-in-Ok-clause-answer : goal.returns-in-Ok-clause-answer
 returns-in-Ok-clause-answer g c =
@@ -24,6 +26,7 @@ returns-in-Ok-clause-answer g c =
     let answer = c.finish-status.result in
     record {
       wrote = tells.wrote;
+      saved = tells.saved;
       came = inr (record {
         answer = tells.answer;
         epoch = c.in-Ok.stored.epoch;
@@ -45,13 +48,18 @@ returns-in-Ok-clause-answer g c =
 pub returns-in-Err-clause-answer : goal.returns-in-Err-clause-answer
 returns-in-Err-clause-answer g c =
     let s = plan_of_script c.args.script.now in
+    let shop = g.H.Shop.view c.args.shop.now in
+    let faults = (g.H.Shop.view c.run_stored.new.shop).faults in
+    let disks = c.unmounted.result.disks.items in
+    let status = c.unmounted.result.status in
     let has = c.in-Err.ensures in
+    let cause = why g.H.D.Disk.view s shop c.args.place.now faults c.in-Err.refused disks status c.unmounted.ensures.disks c.unmounted.ensures.answer has.refused has.disks has.image in
     record {
       wrote = c.unmounted.ensures.refusal.wrote _;
+      saved = λ reported. absurd (unmounted_not_ran g.H.D.Disk.view s shop c.args.place.now faults disks status cause (reported_ran status reported));
       came = inl (record {
         none = c.unmounted.ensures.refusal.none;
-        why = why g.H.D.Disk.view s (g.H.Shop.view c.args.shop.now) c.args.place.now (g.H.Shop.view c.run_stored.new.shop).faults c.in-Err.refused c.unmounted.result.disks.items c.unmounted.result.status
-            c.unmounted.ensures.disks c.unmounted.ensures.answer has.refused has.disks has.image;
+        why = cause;
         back = (c.in-Err.refused, sym c.unmounted.ensures.disks, has.disks);
       });
     }

@@ -1,13 +1,14 @@
-use Rattle.std.proofs.Common.{refl, sym, subst, map}
+use Rattle.std.proofs.Common.{refl, sym, subst, map, inl, inr}
 use Rattle.std.specs.Prelude.{string_bytes}
 use Rattle.qc_opening.specs.Images.{IsFirstFault}
 use Rattle.qc_script.specs.Plan.{ScriptPlan}
 use Rattle.qc_run.specs.Run.{journal_limit, AllOffered, BeganNothing}
-use Rattle.qc_run.specs.Words.{mode_of, place_of, Asked}
+use Rattle.qc_run.specs.Words.{asked_as, place_of}
+use Rattle.qc_run.proofs.Asking.{reads_no_trail}
 use Rattle.qc_run.proofs.Clauses as clause
 use Rattle.qc_run.proofs.Moments.{serial_orders}
 use Rattle.qc_run.proofs.RunFacts.{serial_values, sound_from}
-use Rattle.qc_run.proofs.Taken.{none_was_run, proper_one, same_script, script_was_run, session_was_run, was_read}
+use Rattle.qc_run.proofs.Taken.{no_audit, none_was_run, proper_one, same_script, script_was_run, session_was_run, was_read}
 use Rattle.qc_run.proofs.program.run.Goals as goal
 
 pub returns-clause-legal_history : goal.returns-clause-legal_history
@@ -86,6 +87,15 @@ returns-clause-output_line g c = clause.told _ _ _ _ (g.H.Shop.view c.args.shop.
 pub returns-clause-output_none : goal.returns-clause-output_none
 returns-clause-output_none g c = clause.kept _ _ _ _ (g.H.Shop.view c.args.shop.now) _ _ _ _ c.answer.ensures.answer
 
+pub returns-clause-saved : goal.returns-clause-saved
+returns-clause-saved g c = λ reported. clause.by_script _ _ _ _ (g.H.Shop.view c.args.shop.now) _ _ _ _ _ c.answer.ensures.answer (clause.ran_read _ (clause.reported_ran _ reported)) (λ s it to. clause.as_asked (map string_bytes c.args.words.now) it.asked _ it.is_command (to.saved reported))
+
+pub returns-clause-audited : goal.returns-clause-audited
+returns-clause-audited g c = λ audit. (c.answer.ensures.audited audit).0.said
+
+pub returns-clause-audit_alone : goal.returns-clause-audit_alone
+returns-clause-audit_alone g c = λ audit. let it = c.answer.ensures.audited audit in (it.0.none, it.0.no_disks, it.1)
+
 pub returns-clause-usage : goal.returns-clause-usage
 returns-clause-usage g c = clause.usage _ _ _ _ (g.H.Shop.view c.args.shop.now) _ _ _ _ c.answer.ensures.answer
 
@@ -94,9 +104,16 @@ returns-clause-script_fault g c = clause.script_fault _ _ _ _ (g.H.Shop.view c.a
 
 pub returns-clause-no_script : goal.returns-clause-no_script
 returns-clause-no_script g c = λ reading.
-    none_was_run (g.S.Source.view c.args.source.now).left (g.S.Source.view c.answer.new.source).left c.answer.result.status
-    (λ is. clause.usage _ _ _ _ (g.H.Shop.view c.args.shop.now) _ _ _ _ c.answer.ensures.answer is (Asked.read_at reading.0 (mode_of (map string_bytes c.args.words.now))) (reading.1, refl))
-    (λ had. let run = clause.by_script _ _ _ _ (g.H.Shop.view c.args.shop.now) _ _ _ _ (λ _. Unit {0}) c.answer.ensures.answer had (λ s it to. tt) in (run.0, was_read (map string_bytes c.args.words.now) (g.S.Source.view c.args.source.now).left (g.S.Source.view c.answer.new.source).left run.0 run.1.asked reading run.1.is_command run.1.is_script))
+    let words = map string_bytes c.args.words.now in
+    let before = (g.S.Source.view c.args.source.now).left in
+    let now = (g.S.Source.view c.answer.new.source).left in
+    none_was_run before now c.answer.result.status
+    (λ is. clause.usage _ _ _ _ (g.H.Shop.view c.args.shop.now) _ _ _ _ c.answer.ensures.answer is (asked_as reading.0) (reading.0, reading.1, refl))
+    (clause.not_of_audit _ _ _ _ (g.H.Shop.view c.args.shop.now) _ _ _ _ c.answer.ensures.answer (reads_no_trail words reading))
+    (λ had. elim (clause.by_script _ _ _ _ (g.H.Shop.view c.args.shop.now) _ _ _ _ (λ _. Unit {0}) c.answer.ensures.answer had (λ s it to. tt)) [
+      | inl audit ↦ absurd (reads_no_trail words reading audit)
+      | inr run ↦ (run.0, was_read words before now run.0 run.1.asked reading run.1.is_command run.1.is_script)
+    ])
 
 pub returns-clause-read_fault : goal.returns-clause-read_fault
 returns-clause-read_fault g c = clause.read_failed _ _ _ _ (g.H.Shop.view c.args.shop.now) _ _ _ _ c.answer.ensures.answer
@@ -129,8 +146,11 @@ returns-clause-sink_faults g c = clause.sink_later _ _ _ _ (g.H.Shop.view c.args
 
 pub returns-clause-completes : goal.returns-clause-completes
 returns-clause-completes g c = λ s asks read_well wrote_well.
-    script_was_run (map string_bytes c.args.words.now) (g.S.Source.view c.args.source.now).left s c.answer.result.status _ _ asks
+    let words = map string_bytes c.args.words.now in
+    let before = (g.S.Source.view c.args.source.now).left in
+    script_was_run words before s c.answer.result.status _ _ asks
     (clause.script_fault _ _ _ _ (g.H.Shop.view c.args.shop.now) _ _ _ _ c.answer.ensures.answer)
+    (clause.not_of_audit _ _ _ _ (g.H.Shop.view c.args.shop.now) _ _ _ _ c.answer.ensures.answer (no_audit words before s asks))
     (λ usage. clause.usage _ _ _ _ (g.H.Shop.view c.args.shop.now) _ _ _ _ c.answer.ensures.answer usage asks.asked asks.is_command)
     (λ failed. (clause.read_failed _ _ _ _ (g.H.Shop.view c.args.shop.now) _ _ _ _ c.answer.ensures.answer failed).1) (clause.write_failed _ _ _ _ (g.H.Shop.view c.args.shop.now) _ _ _ _ c.answer.ensures.answer) read_well wrote_well
 
