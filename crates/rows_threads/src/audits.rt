@@ -1,4 +1,4 @@
-//! Histories before the checker, and before the judge.
+//! Histories before the checker, the audit and the judge.
 
 use crate::judged::run_script;
 use crate::made::{Tops, make_script};
@@ -9,8 +9,8 @@ use std::fmt;
 use std::sync::Wait;
 use std::thread::Threads;
 
-/// How many of a seed's scripts were run to their end, with a legal history that follows the script; whether in one a
-/// transaction was killed; and the last fault.
+/// How many of a seed's scripts were run to their end, with a legal history that passes the audit and follows the script;
+/// whether in one a transaction was killed; and the last fault.
 #[derive(Clone, Copy)]
 pub(crate) struct Count {
     follow: u64,
@@ -31,7 +31,8 @@ impl fmt::Display for Count {
     }
 }
 
-/// How many of so many scripts of a seed are run to their end with a legal history that follows the script.
+/// How many of so many scripts of a seed are run to their end with a legal history that follows the script and passes the
+/// audit.
 pub(crate) fn count_following<R: Threads + Wait + Sync>(
     handle: &R,
     alloc: Global,
@@ -52,7 +53,7 @@ pub(crate) fn count_following<R: Threads + Wait + Sync>(
             count.killed |= judged.has_killed();
             match judged.fault(alloc) {
                 Some(fault) => count.fault = Some(fault),
-                None if judged.is_legal(alloc)? => {
+                None if judged.is_legal(alloc)? && judged.passes_audit(handle, alloc)? => {
                     count.follow = count.follow.saturating_add(1);
                 }
                 None => {}

@@ -1,23 +1,25 @@
-//! Runs of scripts made from random numbers, before the checker of histories and before the judge of what follows a script.
+//! Runs of scripts made from random numbers, before the checker of histories, the audit of their saved trails, and the judge
+//! of what follows a script.
 
-use crate::command::run_text;
+use crate::command::{passes_audit, save_trail};
 use qc_check::check_by_scans;
 use qc_config::Config;
-use qc_disk::{MemDisk, MemShop};
+use qc_disk::MemDisk;
 use qc_event::{Cause, Entry, Event, How};
-use qc_run::{NoGate, Ran, Status};
+use qc_run::{Ran, Status};
 use qc_script::Script;
 use rows_judge::{Fault, judge};
 use std::alloc::{AllocError, Global};
 use std::sync::Wait;
 use std::thread::Threads;
 
-/// A script, what came of its run to its end, and the entries of its history.
+/// A script, what came of its run to its end, the entries of its history, and the saved trail.
 #[derive(Drop)]
 pub(crate) struct Judged {
     script: Script,
     ran: Ran<MemDisk>,
     pub(crate) entries: Vec<Entry>,
+    saved: Vec<u8>,
 }
 
 /// Runs a script to its end; nothing where the text is none, or the run ends before.
@@ -30,8 +32,8 @@ pub(crate) fn run_script<R: Threads + Wait + Sync>(
     let Ok(script) = Script::read(alloc, text.as_bytes()) else {
         return Ok(None);
     };
-    let mut shop = MemShop::new(Vec::new(alloc), Vec::new(alloc));
-    let outcome = run_text(handle, alloc, options, text, &mut shop, &NoGate)?;
+    let outcome = save_trail(handle, alloc, options, text)?;
+    let saved = outcome.sink.bytes().to_vec(alloc)?;
     let ran = outcome.ran;
     let entries = ran.trail.to_vec(alloc)?;
     Ok(match ran.status {
@@ -39,6 +41,7 @@ pub(crate) fn run_script<R: Threads + Wait + Sync>(
             script,
             ran,
             entries,
+            saved,
         }),
         _ => None,
     })
@@ -59,6 +62,15 @@ impl Judged {
         let firsts = firsts_of(alloc, &self.script)?;
         let entries = self.entries.as_slice();
         Ok(check_by_scans(&self.ran.start, firsts.as_slice(), entries).is_ok())
+    }
+
+    /// Whether its saved trail is audited as legal, and as accepted by the serial machine.
+    pub(crate) fn passes_audit<R: Threads + Wait + Sync>(
+        &self,
+        handle: &R,
+        alloc: Global,
+    ) -> Result<bool, AllocError> {
+        passes_audit(handle, alloc, self.saved.as_slice())
     }
 
     /// The fault that the judge finds in a trail of the script.

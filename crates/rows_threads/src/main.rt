@@ -7,8 +7,8 @@
 //!   other; the status, and whether the writes met.
 //! - `adds SESSIONS RUNS`: each session adds to one record; how many runs counted each top that was committed, and no
 //!   other.
-//! - `follow SEED RUNS OPTION ..`: scripts made from a seed; how many of their histories are legal as the checker has it and
-//!   follow their script as the judge has it, and whether a transaction was killed.
+//! - `follow SEED RUNS OPTION ..`: scripts made from a seed; how many of their histories are legal as the checker has it,
+//!   pass the audit of their saved trail, and follow their script as the judge has it, and whether a transaction was killed.
 //! - `branches SEED RUNS OPTION ..`: the same of scripts that run bodies at once.
 //! - `slip KIND SEED`: the first of such scripts, in order, whose trail can be spoilt in this way; the fault that the judge
 //!   then finds.
