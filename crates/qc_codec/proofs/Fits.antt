@@ -1,11 +1,12 @@
 -- What fits a form has the lengths that its writer wants, and what is in the range of its types fits.
 use mathlib.Core.Bool.{true≢false}
-use Rattle.std.proofs.Common.{◌≡◌, ℕ, suc, ◌+◌, ◌/◌, ◌%◌, ◌^◌, ◌<◌, ◌≤◌, Bool, true, false, cond, List, [], ◌∷◌, length, refl, sym, ap, arith}
-use Rattle.std.specs.Prelude.{Option, None, Some, ◌==◌, ◌||◌, nat_le, nat_lt, is_none, slice_index, sum}
+use Rattle.std.proofs.Common.{◌≡◌, ℕ, suc, ◌/◌, ◌%◌, ◌^◌, ◌<◌, ◌≤◌, true, false, List, [], ◌∷◌, length, refl, sym, ap, arith}
+use Rattle.std.specs.Prelude.{Option, None, Some, nat_le, nat_lt, is_none, slice_index}
 use Rattle.std.specs.List.{All}
-use Rattle.std.proofs.lemmas.Bool.{and_parts, and_from, or_parts, leb-true, leb-false, ltb-true, ltb-false, le-leb, lt-ltb}
+use Rattle.std.proofs.lemmas.Bool.{and_parts, and_from, leb-true, ltb-true, le-leb, lt-ltb}
 use Rattle.std.proofs.lemmas.List.Elements.{All-nil, All-cons, All-head, All-tail, All-from_get_or}
 use Rattle.qc_names.specs.Name.{longest}
+use Rattle.qc_config.proofs.Faults.{legal_unless_fault}
 use Rattle.qc_config.specs.Config.{Voting, IsLegal, fault, votes_of}
 use Rattle.qc_config.specs.declared.config.BadConfig.{BadConfig}
 use Rattle.qc_config.specs.declared.tuple.Op.{Op}
@@ -16,7 +17,6 @@ use Rattle.qc_event.specs.declared.table.Row.{Row}
 use Rattle.qc_event.specs.declared.table.Table.{Table}
 use Rattle.qc_event.specs.Grants.{Sets}
 use Rattle.qc_event.specs.History.{Name}
-use Rattle.qc_event.proofs.Numbers.{nonzero}
 use Rattle.qc_codec.specs.declared.record.Made.{Made}
 use Rattle.qc_codec.specs.declared.record.LedgerRecord.TheVariants as ledger_record
 use Rattle.qc_codec.specs.Form.{byte, only}
@@ -44,32 +44,14 @@ name_numbered least (top ∷ rest) fits =
     let halves = and_parts (nat_lt 0 (top / 2 ^ 32)) _ fits.0.1.0.1 in
     (ltb-true 0 (top / 2 ^ 32) halves.0, ltb-true 0 (top % 2 ^ 32) halves.1, λ k d lt. ltb-true 0 _ (fits.0.1.1.1 k d lt).1)
 
-not_first : (b : Bool) (e : BadConfig) (o : Option BadConfig) → is_none (cond b (Some e) o) ≡ true → (b ≡ false) × (is_none o ≡ true)
-not_first true e o h = absurd (true≢false (sym h))
-not_first false e o h = (refl, h)
-
-possible : (n total : ℕ) → ((n == 0) || nat_lt total n) ≡ false → (0 < n) × (n ≤ total)
-possible n total h = let p = or_parts (n == 0) (nat_lt total n) h in (nonzero n p.0, ltb-false total n p.1)
+none_of : (o : Option BadConfig) → is_none o ≡ true → o ≡ None
+none_of None is = refl
+none_of (Some e) is = absurd cc
 
 -- a configuration that fits is legal
 pub config_legal : (layout : Layout) (c : Voting) → (config layout).fits c → IsLegal c
 unfolding config
-config_legal layout c fits =
-    let empty = not_first _ _ _ fits.1 in
-    let votes = not_first _ _ _ empty.1 in
-    let reads = not_first _ _ _ votes.1 in
-    let writes = not_first _ _ _ reads.1 in
-    let overlaps = not_first _ _ _ writes.1 in
-    let read = possible c.read (sum c.votes) reads.0 in
-    let write = possible c.write (sum c.votes) writes.0 in
-    record {
-      some_votes = nonzero (sum c.votes) votes.0;
-      some_read = read.0;
-      read_possible = read.1;
-      some_write = write.0;
-      write_possible = write.1;
-      overlap = leb-false (c.read + c.write) (sum c.votes) overlaps.0;
-    }
+config_legal layout c fits = legal_unless_fault c.votes c.read c.write (none_of (fault c.votes c.read c.write) fits.1)
 
 pub tuple_legal : (layout : Layout) (t : Tuple) → (tuple layout).fits t → IsLegal t.config
 unfolding tuple
@@ -176,15 +158,19 @@ rest_fits (n ∷ rest) some small =
     All-cons some_number.fits n rest (small 0, lt-ltb 0 n (All-head (λ k. 0 < k) n rest some))
     (rest_fits rest (All-tail (λ k. 0 < k) n rest some) (λ k. small (suc k)))
 
-pub name_fits : (n : Name) → IsNameInRange n → IsNumbered n → (name 1).fits n
+pub numbered_some : (n : Name) → IsNumbered n → 1 ≤ length n
+numbered_some [] numbered = absurd numbered
+numbered_some (top ∷ rest) numbered = omega arith
+
+pub name_fits : (least : ℕ) (n : Name) → least ≤ length n → IsNameInRange n → IsNumbered n → (name least).fits n
 unfolding name long
-name_fits [] range numbered = absurd numbered
-name_fits (top ∷ rest) range numbered =
+name_fits least [] long range numbered = absurd numbered
+name_fits least (top ∷ rest) long range numbered =
     let short = range.short in
     let few : length (top ∷ rest) < 256 = omega arith in
-    let between : is_length 1 (length (top ∷ rest)) ≡ true =
+    let between : is_length least (length (top ∷ rest)) ≡ true =
     and_from (nat_lt 0 (length (top ∷ rest))) _ (lt-ltb 0 (length (top ∷ rest)) (omega arith))
-    (and_from (nat_le 1 (length (top ∷ rest))) _ (le-leb 1 (length (top ∷ rest)) (omega arith)) (le-leb (length (top ∷ rest)) longest short)) in
+    (and_from (nat_le least (length (top ∷ rest))) _ (le-leb least (length (top ∷ rest)) long) (le-leb (length (top ∷ rest)) longest short)) in
     let halves : is_top top ≡ true = and_from (nat_lt 0 (top / 2 ^ 32)) _ (lt-ltb 0 (top / 2 ^ 32) numbered.0) (lt-ltb 0 (top % 2 ^ 32) numbered.1) in
     (((few, between), ((range.first, halves), (omega arith, rest_fits rest numbered.2 (λ k. range.rest (suc k) (omega arith))))), tt)
 
@@ -207,6 +193,7 @@ code_fits Get = (omega arith, refl)
 code_fits (PutData version value) = (omega arith, refl)
 code_fits (PutConfig generation config) = (omega arith, refl)
 
-pub granted_fits : (copies : ℕ) (g : Grant) → (name 1).fits g.access → g.rec < 256 → (tuple (format_1 copies)).fits g.tuple → Sets g.op g.tuple → (granted 1 (format_1 copies)).fits g
+pub granted_fits : (least copies : ℕ) (g : Grant) → (name least).fits g.access → g.rec < 256 → (tuple (format_1 copies)).fits g.tuple → Sets g.op g.tuple
+    → (granted least (format_1 copies)).fits g
 unfolding granted
-granted_fits copies g named small fits sets = ((named, (small, (code_fits g.op, fits))), sets)
+granted_fits least copies g named small fits sets = ((named, (small, (code_fits g.op, fits))), sets)

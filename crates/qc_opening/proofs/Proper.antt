@@ -1,6 +1,6 @@
 -- What records restore over a proper script's table is a proper base.
-use Rattle.std.proofs.Common.{◌≡◌, ℕ, ◌+◌, ◌<◌, true, List, [], ◌∷◌, length, map, get_or, Option, Some, None, refl, sym, subst, arith}
-use Rattle.std.specs.Prelude.{All, is_none, filter}
+use Rattle.std.proofs.Common.{◌≡◌, ℕ, ◌+◌, ◌<◌, List, [], ◌∷◌, length, map, get_or, Option, sym, subst, arith}
+use Rattle.std.specs.Prelude.{All, filter}
 use Rattle.std.specs.List.{range_with_len}
 use Rattle.std.proofs.lemmas.List.{length-map, get_or-replicate, get_or_default}
 use Rattle.std.proofs.lemmas.List.Elements.{All-head, All-tail, All-map, All-filter, All-from_recursion}
@@ -10,10 +10,9 @@ use Rattle.qc_codec.specs.Copy.{grant_form}
 use Rattle.qc_codec.specs.Fields.{format_1, config, tuple}
 use Rattle.qc_codec.specs.Ledger.{readings}
 use Rattle.qc_codec.specs.Restored.{is_kept_at, restored_tuple}
-use Rattle.qc_codec.proofs.Fits.{config_votes}
-use Rattle.qc_config.specs.Config.{Voting, fault}
+use Rattle.qc_codec.proofs.Fits.{config_legal, config_votes}
+use Rattle.qc_config.specs.Config.{Voting}
 use Rattle.qc_config.specs.Tuple.{after}
-use Rattle.qc_config.specs.declared.config.BadConfig.{BadConfig}
 use Rattle.qc_config.specs.declared.tuple.Op.{Op}
 use Rattle.qc_config.specs.declared.tuple.Op.TheVariants.{Get, PutData, PutConfig}
 use Rattle.qc_config.specs.declared.tuple.Tuple.{Tuple}
@@ -25,21 +24,15 @@ use Rattle.qc_event.specs.Grants.{Sets}
 use Rattle.qc_event.specs.Seen.{changed_by}
 use Rattle.qc_event.specs.Tables.{base_of, first_configs, first_tuple, setting_of}
 use Rattle.qc_script.specs.Plan.{ScriptPlan}
-use Rattle.qc_script.proofs.Proper.{legal_unless_fault}
 use Rattle.qc_script.specs.Reading.{IsProper, IsProperRow}
 use Rattle.qc_opening.specs.Mountings.{IsMounted}
 use Rattle.qc_opening.proofs.KeptDisks.Stands.{copy_spelled}
 
 -- CONFIGURATIONS
 
-none_of : (o : Option BadConfig) → is_none o ≡ true → o ≡ None
-none_of None is = refl
-none_of (Some e) is = absurd cc
-
 -- what fits the form of configurations for so many copies is a legal one for them
 config_for : (copies : ℕ) (c : Voting) → (config (format_1 copies)).fits c → IsConfigFor copies c
-unfolding config
-config_for copies c fits = record { legal = legal_unless_fault c.votes c.read c.write (none_of (fault c.votes c.read c.write) fits.1); for_copies = config_votes (format_1 copies) c fits }
+config_for copies c fits = record { legal = config_legal (format_1 copies) c fits; for_copies = config_votes (format_1 copies) c fits }
 
 tuple_for : (copies : ℕ) (t : Tuple) → (tuple (format_1 copies)).fits t → IsConfigFor copies t.config
 unfolding tuple

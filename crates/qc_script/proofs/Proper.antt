@@ -1,18 +1,18 @@
 -- Parts of a script that are read are proper: numbers are within their limits, records have legal configurations, and
 -- steps are about these records.
-use Rattle.std.proofs.Common.{◌≡◌, ℕ, zero, suc, ◌+◌, ◌-◌, ◌*◌, ◌<◌, ◌≤◌, Bool, true, false, cond, List, [], ◌∷◌, ◌++◌, length, Option, Some, None, Ok, Err, refl, ap, ◌∙◌, subst, arith}
-use Rattle.std.specs.Prelude.{◌==◌, ◌||◌, ◌&&◌, nat_lt, nat_le, sum, IfOk, IfSome, ok_or, if◌then◌else◌, codes}
+use Rattle.std.proofs.Common.{◌≡◌, ℕ, zero, suc, ◌+◌, ◌-◌, ◌*◌, ◌<◌, ◌≤◌, Bool, true, false, List, [], ◌∷◌, ◌++◌, length, Option, Some, None, Ok, Err, refl, ap, ◌∙◌, subst, arith}
+use Rattle.std.specs.Prelude.{◌&&◌, nat_lt, nat_le, IfOk, IfSome, ok_or, if◌then◌else◌, codes}
 use Rattle.std.specs.List.{AllByRecursion, position}
 use Rattle.std.specs.Str.{bytes_eq}
-use Rattle.std.proofs.lemmas.Bool.{eqb-true, leb-true, leb-false, ltb-true, ltb-false, or_parts, and_parts}
+use Rattle.std.proofs.lemmas.Bool.{eqb-true, leb-true, ltb-true, and_parts}
 use Rattle.std.proofs.lemmas.List.{length-map}
 use Rattle.std.proofs.lemmas.List.Quantifiers.{position-Some}
 use Rattle.std.proofs.lemmas.Result.{IfOk-at_ok, IfOk-weaker}
 use Rattle.serde_json.specs.Data.{Data}
 use Rattle.serde_json.specs.Find.{get}
-use Rattle.qc_event.proofs.Numbers.{nonzero}
 use Rattle.qc_event.specs.Base.{IsConfigFor}
-use Rattle.qc_config.specs.Config.{IsLegal, fault}
+use Rattle.qc_config.proofs.Faults.{legal_unless_fault}
+use Rattle.qc_config.specs.Config.{fault}
 use Rattle.qc_config.specs.declared.config.BadConfig.{BadConfig}
 use Rattle.qc_event.specs.declared.table.Row.{Row}
 use Rattle.qc_event.specs.declared.table.Table.{Table}
@@ -53,24 +53,6 @@ pub few_or : (word : Member) (name : Text) (default : ℕ) (d : Data) → IsFew 
 few_or word name default d few = given_or IsFew name default (limited word 1 64) d few (limited_within word 1 64)
 
 -- ---- configurations
-
-not_first : (b : Bool) (e : BadConfig) (o : Option BadConfig) → cond b (Some e) o ≡ None → (b ≡ false) × (o ≡ None)
-not_first true e o h = absurd cc
-not_first false e o h = (refl, h)
-
-possible : (n total : ℕ) → ((n == 0) || nat_lt total n) ≡ false → (0 < n) × (n ≤ total)
-possible n total h = let p = or_parts (n == 0) (nat_lt total n) h in (nonzero n p.0, ltb-false total n p.1)
-
-pub legal_unless_fault : (votes : List ℕ) (read write : ℕ) → fault votes read write ≡ None → IsLegal (record { votes = votes; read = read; write = write })
-legal_unless_fault votes read write h =
-    let a = not_first _ _ _ h in
-    let b = not_first _ _ _ a.1 in
-    let c = not_first _ _ _ b.1 in
-    let d = not_first _ _ _ c.1 in
-    let e = not_first _ _ _ d.1 in
-    let r = possible read (sum votes) c.0 in
-    let w = possible write (sum votes) d.0 in
-    record { some_votes = nonzero (sum votes) b.0; some_read = r.0; read_possible = r.1; some_write = w.0; write_possible = w.1; overlap = leb-false (read + write) (sum votes) e.0 }
 
 no_fault : {A : Type 0} (P : A → Type 0) (o : Option BadConfig) (x : A) → (o ≡ None → P x) → IfOk (elim o [ None ↦ Ok x | Some e ↦ Err (Config e) ]) P
 no_fault P None x h = h refl

@@ -2,6 +2,7 @@
 use Rattle.std.proofs.Common.{ℕ, zero, suc, ◌+◌, ◌*◌, ◌%◌, ◌<◌, Bool, true, false, List, [], ◌∷◌, ◌++◌, map, refl, arith}
 use Rattle.std.specs.Prelude.{◌==◌, ◌||◌, if◌then◌else◌}
 use Rattle.std.specs.List.{AllByRecursion, range_with_len}
+use Rattle.qc_config.proofs.Faults.{legal_unless_fault}
 use Rattle.qc_event.specs.Base.{IsConfigFor}
 use Rattle.qc_event.specs.declared.event.Kind.TheVariants as kind
 use Rattle.qc_script.specs.MadePlan.{Front, one_each, two_each, made_row, record_at, at_once, only_where, reads, children_at, adding_at, reading_at, runs, runs_at_once, steps_at, top_at, made_session, made_plan}
@@ -9,7 +10,6 @@ use Rattle.qc_script.specs.Plan.{Plan, manage_then, PlanWithin, TopsWithin, Sess
 use Rattle.qc_script.specs.Reading.{IsProper, IsProperRow}
 use Rattle.qc_script.specs.Steps.{all_before}
 use Rattle.qc_script.proofs.NumbersMade.{branches_differ, sessions_number}
-use Rattle.qc_script.proofs.Proper.{legal_unless_fault}
 
 -- RECORDS
 

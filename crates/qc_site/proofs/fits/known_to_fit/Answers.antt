@@ -7,13 +7,6 @@ pub returns : goal.returns
 returns g c = record {
   fits = grant_fits (setting_of g.N.Store.table g.N.Store.base) c.args.pass.now.seen c.args.copies c.args.ask.now c.args.tuple.now
       c.requires.proper c.requires.legal c.requires.copies c.requires.asked c.requires.tuple (omega arith)
-      (record { first = c.name_in_range.ensures.first; rest = c.name_in_range.ensures.rest })
-      (record {
-        version = omega arith;
-        value = omega arith;
-        generation = omega arith;
-        votes = c.config_in_range.ensures.votes;
-        read = c.config_in_range.ensures.read;
-        write = c.config_in_range.ensures.write;
-      });
+      c.name_in_range.ensures.first c.name_in_range.ensures.rest (omega arith) (omega arith) (omega arith)
+      (record { votes = c.config_in_range.ensures.votes; read = c.config_in_range.ensures.read; write = c.config_in_range.ensures.write });
 }
