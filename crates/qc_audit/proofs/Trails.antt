@@ -9,22 +9,22 @@ use Rattle.qc_check.proofs.Fronts.{allowed_at}
 use Rattle.qc_audit.specs.Illegal.{IsFirstIllegal}
 
 module _ (setting : Setting) (trail : List Entry) (i : ℕ) where
-  IsRefused : Option Entry → Type 0
-  IsRefused o = MatchOption o ⊥ (λ e. Allowed setting (reverse (take i trail)) e → ⊥)
+  IsNotAllowed : Option Entry → Type 0
+  IsNotAllowed o = MatchOption o ⊥ (λ e. Allowed setting (reverse (take i trail)) e → ⊥)
 
   -- an entry that may not come next is the first such
   pub is_first : (e : Entry) → i < length trail → e ≡ get_or trail i e → Legal setting (reverse (take i trail)) → (Allowed setting (reverse (take i trail)) e → ⊥) → IsFirstIllegal setting trail i
-  unfolding IsRefused
+  unfolding IsNotAllowed
   is_first e lt item legal refused = record {
     within = lt;
     legal_before = legal;
-    not_allowed = subst IsRefused (sym (slice_get-get_or trail i e lt ∙ ap Some (sym item))) refused;
+    not_allowed = subst IsNotAllowed (sym (slice_get-get_or trail i e lt ∙ ap Some (sym item))) refused;
   }
 
   -- a trail that has one is no legal history
   pub not_legal : IsFirstIllegal setting trail i → Legal setting (reverse trail) → ⊥
-  unfolding IsRefused
+  unfolding IsNotAllowed
   not_legal first legal = elim (slice_get_cases trail i).1 [
-    | inl there ↦ subst IsRefused there.2 first.not_allowed (allowed_at setting trail i there.0 there.1 (sym there.3) legal)
-    | inr over ↦ subst IsRefused over.1 first.not_allowed
+    | inl there ↦ subst IsNotAllowed there.2 first.not_allowed (allowed_at setting trail i there.0 there.1 (sym there.3) legal)
+    | inr over ↦ subst IsNotAllowed over.1 first.not_allowed
   ]

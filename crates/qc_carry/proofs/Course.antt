@@ -18,7 +18,7 @@ use Rattle.qc_desk.specs.declared.view.View.{View}
 use Rattle.qc_desk.specs.Rules.{IsClient}
 use Rattle.qc_desk.proofs.Calls as calls
 use Rattle.qc_desk.proofs.Lists.{entries_append}
-use Rattle.qc_carry.specs.Access.{Course, Cut, Ends, IsLeft, IsPart, IsShort, Stands, ending, orphaning}
+use Rattle.qc_carry.specs.Access.{Course, Cut, Ends, IsLeft, IsPart, IsShort, AnswerStands, ending, orphaning}
 use Rattle.qc_carry.specs.Walk.{Walk}
 use Rattle.qc_carry.proofs.Beginning as beginning
 use Rattle.qc_carry.proofs.Carries as carries
@@ -105,7 +105,7 @@ module _ (setting : Setting) (v w : View) (m : Name) (copy rec : ℕ) (op : Op) 
       subst (λ p. WasCarried (carriage v.number v.seen p m copy rec op) (became told)) (sym walk.grown)
       (carries.carried setting v.number v.seen m copy rec op (calls.client v client) may walk.newer (subst (Legal setting) walk.grown legal) (became told) (first told stands) walk.own)
     where
-      first : (c : Carried) → Stands w.seen request.access c → carries.IsFirst setting v.number v.seen m copy rec op (calls.client v client) may walk.newer (subst (Legal setting) walk.grown legal) (became c)
+      first : (c : Carried) → AnswerStands w.seen request.access c → carries.IsFirst setting v.number v.seen m copy rec op (calls.client v client) may walk.newer (subst (Legal setting) walk.grown legal) (became c)
       first (Reply tuple) h = tt
       first (Blocked holder) h = ap (λ p. refused p request.access) (sym walk.grown) ∙ h
       first (Gone why) h = tt

@@ -32,10 +32,10 @@ pub record Waits (past : Past) (seat : ℕ) (ask : Ask) : Type 0 where
   pub ungone : gone past ask.access ≡ None
 
 -- what a manager is told of an access that is not granted stands in the history: the first refusal, or the copy's own word
-abbrev pub Stands : Past → Name → Carried → Type 0
-Stands past access (Reply tuple) = Unit {0}
-Stands past access (Blocked holder) = refused past access ≡ Some (refusal.Blocked holder)
-Stands past access (Gone why) = IsTrue (not (is_fault why) || was_unable past access why)
+abbrev pub AnswerStands : Past → Name → Carried → Type 0
+AnswerStands past access (Reply tuple) = Unit {0}
+AnswerStands past access (Blocked holder) = refused past access ≡ Some (refusal.Blocked holder)
+AnswerStands past access (Gone why) = IsTrue (not (is_fault why) || was_unable past access why)
 
 -- the entries with which an access that asked ends, by its result
 abbrev pub ending : ℕ → Ask → Became → Past
@@ -69,7 +69,7 @@ IsLeft v w access = Walk v w [] ⊎ ((why : Why) × Walk v w (entry v.number (ev
 
 -- what an access that waits has come to: it ended by what its manager is told, or as an orphan, or it was left
 abbrev pub Ends : View → View → Ask → Result Carried CarryNo → Type 0
-Ends v w ask (Ok told) = Walk v w (ending v.number ask (became told)) × Stands w.seen ask.access told
+Ends v w ask (Ok told) = Walk v w (ending v.number ask (became told)) × AnswerStands w.seen ask.access told
 Ends v w ask (Err (no.Orphan a)) = Walk v w (orphaning v.number ask.access a) × IsOrphanOf w.seen ask.access a
 Ends v w ask (Err (no.Short short)) = IsLeft v w ask.access × IsWant w.seen short
 
@@ -88,5 +88,5 @@ CutUnasked v w m ask why = (made : Past) × Walk v w made × IsPart v w m ask ma
 
 -- what a manager's next access has come to
 abbrev pub Course : View → View → Name → Ask → Result Carried CarryNo → Type 0
-Course v w m ask (Ok told) = Walk v w (access_entries v.number ask (became told)) × Stands w.seen ask.access told
+Course v w m ask (Ok told) = Walk v w (access_entries v.number ask (became told)) × AnswerStands w.seen ask.access told
 Course v w m ask (Err why) = Cut v w m ask why

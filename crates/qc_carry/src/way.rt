@@ -5,7 +5,7 @@ ghost use Rattle.qc_event.specs.declared.event.Ask.{Ask};
 ghost use Rattle.qc_event.specs.declared.short.Short.TheVariants.{Room};
 ghost use Rattle.qc_event.specs.History.{limit};
 ghost use Rattle.qc_event.specs.Tables.{setting_of};
-ghost use Rattle.qc_net.specs.Courier.{link_of, held_of, IsAnswered, HasCause};
+ghost use Rattle.qc_net.specs.Courier.{link_of, held_of, IsAnswered, SentHasCause};
 ghost use Rattle.qc_net.specs.Plan.{anew};
 ghost use Rattle.qc_net.specs.Sending.{IsSending, sending};
 ghost use Rattle.qc_desk.specs.Consulting.{HasAsked};
@@ -103,7 +103,7 @@ pub(crate) fn send<R: Wait, D: Disk + Drop, L: Link, N: Mounting>(
     ensures told { IfSome (L.view (link_of courier.old)).plan (λ plan. IfOk result (IsSending
         (sending plan (held_of courier.old) ask.now patience) (L.view (link_of courier.new)).plan
         (held_of courier.new) (λ (a : Ask). HasAnswered a.copy pass.new.seen a) None None)) }
-    ensures cause { IfOk result (HasCause
+    ensures cause { IfOk result (SentHasCause
         (Rose (L.view (link_of courier.old)).troubles (L.view (link_of courier.new)).troubles)) }
     ensures later { (L.view (link_of courier.old)).troubles
         ≤ (L.view (link_of courier.new)).troubles }

@@ -13,6 +13,6 @@ pub record IsRefusedBy (setting : Setting) (before : List Entry) (why : Rule) (e
   pub broken : Breaks setting (reverse before) e why
 
 -- Of entries, the oldest first, those before a place are legal, and the one there is refused.
-pub record IsRefused (setting : Setting) (h : List Entry) (why : Illegal) : Type 0 where
+pub record HistoryIsRefused (setting : Setting) (h : List Entry) (why : Illegal) : Type 0 where
   pub legal_before : Legal setting (reverse (take why.place h))
   pub refused_there : MatchOption (slice_get h why.place) ⊥ (IsRefusedBy setting (take why.place h) why.rule)

@@ -83,7 +83,7 @@ pub fn check_by_scans(base: &Base, firsts: &[Config], h: &[Entry]) -> Result<(),
     ensures legal { OnOk result
         (words.Legal (record { firsts = firsts.now; base = base.now }) (reverse h.now)) }
     ensures refused { IfErr result
-        (refused.IsRefused (record { firsts = firsts.now; base = base.now }) h.now) }
+        (refused.HistoryIsRefused (record { firsts = firsts.now; base = base.now }) h.now) }
     ensures illegal { OnErr result
         (words.Legal (record { firsts = firsts.now; base = base.now }) (reverse h.now) → ⊥) }
 {

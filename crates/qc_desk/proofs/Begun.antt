@@ -20,11 +20,11 @@ not_root setting past n b legal is = let was = was_begun setting past n b legal 
     by_name (x ∷ r) older may = omega arith
 
 -- a name under which a child may stand is not the root, and has room for a further number
-pub record HasRoom (n : Name) : Type 0 where
+pub record NameHasRoom (n : Name) : Type 0 where
   pub below_a_top : 0 < length n
   pub room : length n ≤ 17
 
-pub has_room : (setting : Setting) (past : Past) (seat : ℕ) (n : Name) (k : Kind) → Legal setting past → Started past n (λ p. Stands setting seat p (length n + 1) k) → HasRoom n
+pub has_room : (setting : Setting) (past : Past) (seat : ℕ) (n : Name) (k : Kind) → Legal setting past → Started past n (λ p. Stands setting seat p (length n + 1) k) → NameHasRoom n
 has_room setting past seat n k legal h =
     let there = some_there (start past n) (λ p. Stands setting seat p (length n + 1) k) h in
     record { below_a_top = not_root setting past n there.0 legal there.1; room = by_kind k there.0 there.1 there.2 }

@@ -16,7 +16,7 @@ use Rattle.qc_event.specs.History.{Past, Name, Asked, asked, ask_in, granted, gr
 use Rattle.qc_event.specs.Legal.{Legal, Allowed}
 use Rattle.qc_event.specs.Seats.{copy_seat}
 use Rattle.qc_event.specs.Seen.{seen, holder, changed_by, is_live_at}
-use Rattle.qc_moss.specs.Follows.{Follows}
+use Rattle.qc_moss.specs.Follows.{TableFollows}
 use Rattle.qc_moss.specs.Locks.{Table}
 use Rattle.qc_moss.proofs.Tables.{grows}
 use Rattle.qc_moss.specs.declared.consulting.Verdict.{Verdict}
@@ -27,7 +27,7 @@ use Rattle.qc_event.proofs.Asked.{asked_fits}
 use Rattle.qc_event.proofs.AsksFit.{AskFits, start_sized}
 use Rattle.qc_desk.specs.declared.view.View.{View}
 use Rattle.qc_desk.specs.Calling.{IsLook, IsEntry, Looked, EnteredAs}
-use Rattle.qc_desk.specs.Consulting.{HasAsked, IsFree, IsRefused, IsJudged, granted_before, refusal_of}
+use Rattle.qc_desk.specs.Consulting.{HasAsked, IsFree, AskIsRefused, IsJudged, granted_before, refusal_of}
 use Rattle.qc_desk.specs.Entries.{IsOlder, IsSince, entry}
 use Rattle.qc_desk.specs.Refusing.{against_nothing}
 use Rattle.qc_desk.specs.Rules.{knows, extends}
@@ -52,22 +52,22 @@ asked_later seen now ask older h =
 -- LOCKS
 
 -- locks follow a longer history too
-pub follows_more : (newer past : Past) (given : List Grant) (table : Table) → Follows past given table → Follows (newer ++ past) given table
+pub follows_more : (newer past : Past) (given : List Grant) (table : Table) → TableFollows past given table → TableFollows (newer ++ past) given table
 follows_more [] past given table f = f
 follows_more (e ∷ newer) past given table f = grows (newer ++ past) e given table (follows_more newer past given table f)
 
 -- the locks of a copy follow what others entered since, with the same grants
-pub follows_since : (setting : Setting) (past now : Past) (copy : ℕ) (table : Table) → Legal setting now → IsSince (copy_seat copy) past now → Follows past (grants past copy) table → Follows now (grants now copy) table
+pub follows_since : (setting : Setting) (past now : Past) (copy : ℕ) (table : Table) → Legal setting now → IsSince (copy_seat copy) past now → TableFollows past (grants past copy) table → TableFollows now (grants now copy) table
 follows_since setting past now copy table legal s f =
     let here = subst (Legal setting) s.1 legal in
-    subst (λ p. Follows p (grants p copy) table) (sym s.1)
-    (subst (λ gs. Follows (s.0 ++ past) gs table) (sym (grants_kept setting past copy s.0 (others_grant_none setting past copy s.0 here s.2))) (follows_more s.0 past (grants past copy) table f))
+    subst (λ p. TableFollows p (grants p copy) table) (sym s.1)
+    (subst (λ gs. TableFollows (s.0 ++ past) gs table) (sym (grants_kept setting past copy s.0 (others_grant_none setting past copy s.0 here s.2))) (follows_more s.0 past (grants past copy) table f))
 
 -- and the refusal that is entered then, which changes no grant
-pub follows_refused : (past : Past) (seat copy : ℕ) (ask : Ask) (r : Refusal) (table : Table) → Follows past (grants past copy) table
-    → Follows (entry seat (event.Refused ask.access ask.copy r) ∷ past) (grants (entry seat (event.Refused ask.access ask.copy r) ∷ past) copy) table
+pub follows_refused : (past : Past) (seat copy : ℕ) (ask : Ask) (r : Refusal) (table : Table) → TableFollows past (grants past copy) table
+    → TableFollows (entry seat (event.Refused ask.access ask.copy r) ∷ past) (grants (entry seat (event.Refused ask.access ask.copy r) ∷ past) copy) table
 follows_refused past seat copy ask r table f =
-    subst (λ gs. Follows (entry seat (event.Refused ask.access ask.copy r) ∷ past) gs table) (sym (append-nil (grants past copy))) (grows past (entry seat (event.Refused ask.access ask.copy r)) (grants past copy) table f)
+    subst (λ gs. TableFollows (entry seat (event.Refused ask.access ask.copy r) ∷ past) gs table) (sym (append-nil (grants past copy))) (grows past (entry seat (event.Refused ask.access ask.copy r)) (grants past copy) table f)
 
 -- REPEATS
 
@@ -79,25 +79,25 @@ before_refused past seat copy n r ask = ap (option_and_then (tuple_at ask.copy))
 
 module _ (setting : Setting) (past : Past) (ask : Ask) where
   -- what stands of a verdict
-  abbrev pub Stands : Verdict → Type 0
-  Stands (verdict.Free tuple) = IsFree setting past ask tuple
-  Stands (verdict.Blocked holder) = IsRefusal past ask (refusal.Blocked holder)
-  Stands (verdict.Dead ancestor) = IsRefusal past ask (refusal.Dead ancestor)
+  abbrev pub VerdictStands : Verdict → Type 0
+  VerdictStands (verdict.Free tuple) = IsFree setting past ask tuple
+  VerdictStands (verdict.Blocked holder) = IsRefusal past ask (refusal.Blocked holder)
+  VerdictStands (verdict.Dead ancestor) = IsRefusal past ask (refusal.Dead ancestor)
 
   -- a refusal has its reason
-  pub has_reason : (said : Verdict) (r : Refusal) → refusal_of said ≡ Some r → Stands said → IsRefusal past ask r
+  pub has_reason : (said : Verdict) (r : Refusal) → refusal_of said ≡ Some r → VerdictStands said → IsRefusal past ask r
   has_reason (verdict.Free tuple) r is h = absurd cc
   has_reason (verdict.Blocked holder) r is h = let same : refusal.Blocked holder ≡ r = cc in subst (IsRefusal past ask) same h
   has_reason (verdict.Dead ancestor) r is h = let same : refusal.Dead ancestor ≡ r = cc in subst (IsRefusal past ask) same h
 
   -- and is judged so once it is entered
-  pub judged_refused : (v w : View) (said : Verdict) (r : Refusal) → refusal_of said ≡ Some r → EnteredAs against_nothing (IsRefused ask r) v w → IsJudged setting ask v w said
+  pub judged_refused : (v w : View) (said : Verdict) (r : Refusal) → refusal_of said ≡ Some r → EnteredAs against_nothing (AskIsRefused ask r) v w → IsJudged setting ask v w said
   judged_refused v w (verdict.Free tuple) r is e = absurd cc
-  judged_refused v w (verdict.Blocked holder) r is e = let same : r ≡ refusal.Blocked holder = cc in subst (λ x. EnteredAs against_nothing (IsRefused ask x) v w) same e
-  judged_refused v w (verdict.Dead ancestor) r is e = let same : r ≡ refusal.Dead ancestor = cc in subst (λ x. EnteredAs against_nothing (IsRefused ask x) v w) same e
+  judged_refused v w (verdict.Blocked holder) r is e = let same : r ≡ refusal.Blocked holder = cc in subst (λ x. EnteredAs against_nothing (AskIsRefused ask x) v w) same e
+  judged_refused v w (verdict.Dead ancestor) r is e = let same : r ≡ refusal.Dead ancestor = cc in subst (λ x. EnteredAs against_nothing (AskIsRefused ask x) v w) same e
 
   -- what is free is judged so
-  pub judged_free : (v w : View) (said : Verdict) → refusal_of said ≡ None → Stands said → Looked v w → w.seen ≡ past → IsJudged setting ask v w said
+  pub judged_free : (v w : View) (said : Verdict) → refusal_of said ≡ None → VerdictStands said → Looked v w → w.seen ≡ past → IsJudged setting ask v w said
   judged_free v w (verdict.Free tuple) none h looked is = (looked, subst (λ p. IsFree setting p ask tuple) (sym is) h)
   judged_free v w (verdict.Blocked holder) none h looked is = absurd cc
   judged_free v w (verdict.Dead ancestor) none h looked is = absurd cc
@@ -134,16 +134,16 @@ module _ (setting : Setting) (past : Past) (ask : Ask) where
       by_both d h t = option_map_or verdict.Dead d (option_map_or verdict.Blocked h (verdict.Free t))
 
       -- what the locks tell stands
-      pub verdict_stands : (said : Verdict) → said ≡ copies.verdict past table (grants past ask.copy) ask → Stands said
+      pub verdict_stands : (said : Verdict) → said ≡ copies.verdict past table (grants past ask.copy) ask → VerdictStands said
       verdict_stands said is = by_cases (dead past ask.access) (holder past ask.copy ask.rec ask.op ask.access) refl refl (is ∙ ap (λ t. by_both (dead past ask.access) (holder past ask.copy ask.rec ask.op ask.access) t) same)
         where
           same : copies.tuple_after past table (grants past ask.copy) ask ≡ tuple
           same = ap (λ (ts : List Tuple). after (changed_by (slice_index_or ts ask.rec no_tuple) (filter (is_live_at past ask.rec) (grants past ask.copy))) ask.op) start
 
-          by_cases : (d h : Option Name) → dead past ask.access ≡ d → holder past ask.copy ask.rec ask.op ask.access ≡ h → said ≡ by_both (dead past ask.access) (holder past ask.copy ask.rec ask.op ask.access) tuple → Stands said
-          by_cases (Some a) h dies way at = subst Stands (sym (at ∙ ap (λ d. by_both d (holder past ask.copy ask.rec ask.op ask.access) tuple) dies)) dies
-          by_cases None (Some h) alive held at = subst Stands (sym (at ∙ (λ i. by_both (alive i) (held i) tuple))) (alive, held)
-          by_cases None None alive none at = subst Stands (sym (at ∙ (λ i. by_both (alive i) (none i) tuple))) (free alive none)
+          by_cases : (d h : Option Name) → dead past ask.access ≡ d → holder past ask.copy ask.rec ask.op ask.access ≡ h → said ≡ by_both (dead past ask.access) (holder past ask.copy ask.rec ask.op ask.access) tuple → VerdictStands said
+          by_cases (Some a) h dies way at = subst VerdictStands (sym (at ∙ ap (λ d. by_both d (holder past ask.copy ask.rec ask.op ask.access) tuple) dies)) dies
+          by_cases None (Some h) alive held at = subst VerdictStands (sym (at ∙ (λ i. by_both (alive i) (held i) tuple))) (alive, held)
+          by_cases None None alive none at = subst VerdictStands (sym (at ∙ (λ i. by_both (alive i) (none i) tuple))) (free alive none)
 
 -- AFTER THE LOOK
 
@@ -153,9 +153,9 @@ pub record IsReady (setting : Setting) (past : Past) (v w : View) (ask : Ask) (t
   pub has : HasAsked past ask
   pub since : IsSince v.number v.seen past
   pub is : w ≡ knows past v
-  pub follows : Follows past (grants past ask.copy) table
+  pub follows : TableFollows past (grants past ask.copy) table
 
-pub ready : (setting : Setting) (old now : Past) (v w : View) (ask : Ask) (table : Table) → v.number ≡ copy_seat ask.copy → Legal setting old → HasAsked old ask → IsSince v.number v.seen old → IsLook old now v w → Follows v.seen (grants v.seen ask.copy) table → IsReady setting now v w ask table
+pub ready : (setting : Setting) (old now : Past) (v w : View) (ask : Ask) (table : Table) → v.number ≡ copy_seat ask.copy → Legal setting old → HasAsked old ask → IsSince v.number v.seen old → IsLook old now v w → TableFollows v.seen (grants v.seen ask.copy) table → IsReady setting now v w ask table
 ready setting old now v w ask table number legal has since look follows = record {
   legal = now_legal;
   has = subst (λ p. HasAsked p ask) (sym look.0) has;
@@ -177,16 +177,16 @@ module _ (setting : Setting) (past : Past) (v w : View) (ask : Ask) (table : Tab
   pub looked : Looked v w
   looked = (subst (IsSince v.number v.seen) (sym seen_is) r.since, r.is ∙ ap (λ p. knows p v) (sym seen_is))
 
-  pub follows_still : (settled : Table) → Follows past (grants past ask.copy) settled → Follows w.seen (grants w.seen ask.copy) settled
-  follows_still settled f = subst (λ p. Follows p (grants p ask.copy) settled) (sym seen_is) f
+  pub follows_still : (settled : Table) → TableFollows past (grants past ask.copy) settled → TableFollows w.seen (grants w.seen ask.copy) settled
+  follows_still settled f = subst (λ p. TableFollows p (grants p ask.copy) settled) (sym seen_is) f
 
-  pub follows_wanting : (settled : Table) (now : Past) (u : View) → Follows past (grants past ask.copy) settled → IsLook past now w u → Follows u.seen (grants u.seen ask.copy) settled
-  follows_wanting settled now u f look = subst (λ p. Follows p (grants p ask.copy) settled) (sym (ap (λ (x : View). x.seen) look.1)) f
+  pub follows_wanting : (settled : Table) (now : Past) (u : View) → TableFollows past (grants past ask.copy) settled → IsLook past now w u → TableFollows u.seen (grants u.seen ask.copy) settled
+  follows_wanting settled now u f look = subst (λ p. TableFollows p (grants p ask.copy) settled) (sym (ap (λ (x : View). x.seen) look.1)) f
 
-  pub follows_entered : (settled : Table) (now : Past) (u : View) (reason : Refusal) → Follows past (grants past ask.copy) settled → IsEntry (event.Refused ask.access ask.copy reason) past now w u → Follows u.seen (grants u.seen ask.copy) settled
-  follows_entered settled now u reason f e = subst (λ p. Follows p (grants p ask.copy) settled) (sym (ap (λ (x : View). x.seen) e.1)) (follows_refused past w.number ask.copy ask reason settled f)
+  pub follows_entered : (settled : Table) (now : Past) (u : View) (reason : Refusal) → TableFollows past (grants past ask.copy) settled → IsEntry (event.Refused ask.access ask.copy reason) past now w u → TableFollows u.seen (grants u.seen ask.copy) settled
+  follows_entered settled now u reason f e = subst (λ p. TableFollows p (grants p ask.copy) settled) (sym (ap (λ (x : View). x.seen) e.1)) (follows_refused past w.number ask.copy ask reason settled f)
 
-  pub entered_refusal : (now : Past) (u : View) (reason : Refusal) → IsRefusal past ask reason → IsEntry (event.Refused ask.access ask.copy reason) past now w u → EnteredAs against_nothing (IsRefused ask reason) v u
+  pub entered_refusal : (now : Past) (u : View) (reason : Refusal) → IsRefusal past ask reason → IsEntry (event.Refused ask.access ask.copy reason) past now w u → EnteredAs against_nothing (AskIsRefused ask reason) v u
   entered_refusal now u reason h e = (
     past,
     event.Refused ask.access ask.copy reason,

@@ -26,7 +26,7 @@ use Rattle.qc_event.proofs.StillTold.{begun_still}
 use Rattle.qc_desk.specs.declared.refusal.DeskNo.TheVariants as no
 use Rattle.qc_desk.specs.Entries.{IsOlder, entry}
 use Rattle.qc_desk.specs.Refusing.{if_ended, if_committed, if_dead, if_ready, if_open, against_child, against_ready}
-use Rattle.qc_desk.proofs.Begun.{HasRoom, has_room}
+use Rattle.qc_desk.proofs.Begun.{NameHasRoom, has_room}
 
 -- WHERE A TEST DID NOT FAIL
 
@@ -141,5 +141,5 @@ pub record IsParent (past : Past) (n : Name) : Type 0 where
 pub is_parent : (setting : Setting) (seat : ℕ) (seen now : Past) (parent : Name) (k : Kind) → Legal setting now → IsOlder seen now → Started seen parent (λ p. Stands setting seat p (length parent + 1) k) → IsParent now parent
 is_parent setting seat seen now parent k legal older stands =
     let here = started_later seen now parent (λ p. Stands setting seat p (length parent + 1) k) older stands in
-    let room : HasRoom parent = has_room setting now seat parent k legal here in
+    let room : NameHasRoom parent = has_room setting now seat parent k legal here in
     record { below_a_top = room.below_a_top; room = room.room; few = children_fewer now parent (started_some (λ p. Stands setting seat p (length parent + 1) k) (start now parent) here) }

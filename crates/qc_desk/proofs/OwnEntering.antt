@@ -30,7 +30,7 @@ use Rattle.qc_event.proofs.OneEntry.{none_before}
 use Rattle.qc_event.proofs.Options.{match_wider, some_there}
 use Rattle.qc_event.proofs.StillTold.{match_stays, some_stays, is_stays}
 use Rattle.qc_event.proofs.Starting.{manager_name, user_short}
-use Rattle.qc_desk.proofs.Begun.{HasRoom, not_root}
+use Rattle.qc_desk.proofs.Begun.{NameHasRoom, not_root}
 use Rattle.qc_desk.proofs.Entering.{not_ended, alive, closed}
 use Rattle.qc_desk.proofs.OwnAsking as asking
 use Rattle.qc_desk.proofs.OwnEnding as ending
@@ -96,7 +96,7 @@ commits_user past seat [] given long may = may
 commits_user past seat (x ∷ []) given long may = absurd (omega arith)
 commits_user past seat (x ∷ y ∷ r) given long may = may
 
-pub commit_room : (setting : Setting) (seat : ℕ) (seen now : Past) (n : Name) (given : Answer) → Legal setting now → IsSince seat seen now → Started seen n (λ b. CommitsOwn setting seen seat n given b b.kind) → HasRoom n
+pub commit_room : (setting : Setting) (seat : ℕ) (seen now : Past) (n : Name) (given : Answer) → Legal setting now → IsSince seat seen now → Started seen n (λ b. CommitsOwn setting seen seat n given b b.kind) → NameHasRoom n
 commit_room setting seat seen now n given legal s may =
     let there = some_there (start seen n) (λ b. CommitsOwn setting seen seat n given b b.kind) may in
     let begun : start now n ≡ Some there.0 = ap (λ p. start p n) s.1 ∙ is_stays (λ e. start_in n e.seat e.event) s.0 seen there.0 there.1 in

@@ -33,14 +33,14 @@ pub record IsFree (setting : Setting) (past : Past) (ask : Ask) (tuple : Tuple) 
   pub may : granted past ask.access ≡ None → MayGrant setting past (copy_seat ask.copy) ask.copy (grant_with ask tuple)
 
 -- the event refuses the request, for a reason that stands
-abbrev pub IsRefused : Ask → Refusal → Past → Event → Type 0
-IsRefused ask r past ev = IsRefusal past ask r × (ev ≡ event.Refused ask.access ask.copy r)
+abbrev pub AskIsRefused : Ask → Refusal → Past → Event → Type 0
+AskIsRefused ask r past ev = IsRefusal past ask r × (ev ≡ event.Refused ask.access ask.copy r)
 
 -- what a verdict makes of a copy's pass: a free request enters nothing, and a refusal is entered
 abbrev pub IsJudged : Setting → Ask → View → View → Verdict → Type 0
 IsJudged setting ask v w (verdict.Free tuple) = Looked v w × IsFree setting w.seen ask tuple
-IsJudged setting ask v w (verdict.Blocked holder) = EnteredAs against_nothing (IsRefused ask (refusal.Blocked holder)) v w
-IsJudged setting ask v w (verdict.Dead ancestor) = EnteredAs against_nothing (IsRefused ask (refusal.Dead ancestor)) v w
+IsJudged setting ask v w (verdict.Blocked holder) = EnteredAs against_nothing (AskIsRefused ask (refusal.Blocked holder)) v w
+IsJudged setting ask v w (verdict.Dead ancestor) = EnteredAs against_nothing (AskIsRefused ask (refusal.Dead ancestor)) v w
 
 -- the tuple that the copy of a request granted it first
 abbrev pub granted_before : Past → Ask → Option Tuple

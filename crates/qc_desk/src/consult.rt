@@ -8,7 +8,7 @@ ghost use Rattle.qc_event.specs.Base.{IsProper};
 ghost use Rattle.qc_event.specs.History.{grants};
 ghost use Rattle.qc_event.specs.Seats.{copy_seat};
 ghost use Rattle.qc_event.specs.Tables.{setting_of};
-ghost use Rattle.qc_moss.specs.Follows.{Follows};
+ghost use Rattle.qc_moss.specs.Follows.{TableFollows};
 ghost use Rattle.qc_desk.specs.Calling.{IsRoomOf, Shown, Wanted};
 ghost use Rattle.qc_desk.specs.Consulting as words;
 ghost use Rattle.qc_desk.specs.Consulting.{HasAsked, IsTold, granted_before};
@@ -33,11 +33,11 @@ pub enum Consulted {
 
 // What tells a copy of the history at this step.
 #[derive(Clone, Copy)]
-struct Told<'a, N: Store> {
+struct DeskTold<'a, N: Store> {
     locked: &'a Locked<N>,
 }
 
-impl<'a, N: Store> Source for Told<'a, N> {
+impl<'a, N: Store> Source for DeskTold<'a, N> {
     ghost use Rattle.std.specs.Prelude.{◌≡◌};
 
     ghost tells = { λ told past. told.locked.now ≡ past };
@@ -77,14 +77,15 @@ impl<N: Store> Locked<N> {
         requires asked { HasAsked self.old ask.now }
         requires proper { IsProper (setting_of N.table N.base) }
         requires start { locks.old.start ≡ slice_index_or N.base ask.now.copy [] }
-        requires follows { Follows pass.old.seen (grants pass.old.seen ask.now.copy) locks.old }
+        requires follows { TableFollows pass.old.seen (grants pass.old.seen ask.now.copy)
+            locks.old }
         ensures told { IfOk result
             (IsTold (setting_of N.table N.base) ask.now pass.old pass.new) }
         ensures admits { (tuple : Tuple) → result ≡ Ok (Fresh (Free tuple))
             → grant_of locks.new ask.now ≡ grant_with ask.now tuple }
         ensures err { IfErr result (Wanted pass.old pass.new) }
         ensures fresh { OnErr result (granted_before pass.new.seen ask.now ≡ None) }
-        ensures follows { Follows pass.new.seen (grants pass.new.seen ask.now.copy) locks.new }
+        ensures follows { TableFollows pass.new.seen (grants pass.new.seen ask.now.copy) locks.new }
         ensures start { locks.new.start ≡ locks.old.start }
         ensures reserved { locks.new.reserved ≡ locks.old.reserved }
         ensures seen { pass.new.seen ≡ self.new }
@@ -94,7 +95,7 @@ impl<N: Store> Locked<N> {
         if let Some(tuple) = self.granted(ask.copy, &ask.access) {
             return Ok(Consulted::Again(tuple));
         }
-        let verdict = consult_locks(locks, ask, &Told { locked: self });
+        let verdict = consult_locks(locks, ask, &DeskTold { locked: self });
         let Some(refusal) = refusal_of(&verdict) else {
             return Ok(Consulted::Fresh(verdict));
         };
@@ -127,14 +128,15 @@ impl<N: Store> Desk<N> {
         requires asked { HasAsked seer.old.seen ask.now }
         requires proper { IsProper (setting_of N.table N.base) }
         requires start { locks.old.start ≡ slice_index_or N.base ask.now.copy [] }
-        requires follows { Follows pass.old.seen (grants pass.old.seen ask.now.copy) locks.old }
+        requires follows { TableFollows pass.old.seen (grants pass.old.seen ask.now.copy)
+            locks.old }
         ensures told { IfOk result
             (IsTold (setting_of N.table N.base) ask.now pass.old pass.new) }
         ensures admits { (tuple : Tuple) → result ≡ Ok (Fresh (Free tuple))
             → grant_of locks.new ask.now ≡ grant_with ask.now tuple }
         ensures err { IfErr result (Wanted pass.old pass.new) }
         ensures fresh { OnErr result (granted_before pass.new.seen ask.now ≡ None) }
-        ensures follows { Follows pass.new.seen (grants pass.new.seen ask.now.copy) locks.new }
+        ensures follows { TableFollows pass.new.seen (grants pass.new.seen ask.now.copy) locks.new }
         ensures start { locks.new.start ≡ locks.old.start }
         ensures reserved { locks.new.reserved ≡ locks.old.reserved }
         ensures shown { Shown seer.old seer.new }

@@ -1,7 +1,7 @@
 -- What a call of a disk in memory does, seen as a disk.
 use Rattle.std.proofs.Common.{◌≡◌, ◌<◌, ◌^◌, ℕ, ◌+◌, List, [], ◌∷◌, ◌++◌, length, Bool, true, false, if◌then◌else◌, Some, Result, Ok, Err, refl, sym, ◌∙◌, ap, subst, arith}
 use Rattle.std.specs.Result.{IsErrOf, OnOk}
-use Rattle.qc_disk.specs.Disk.{View, next, Rose, HasCause, Torn, Cut, Follows, Within, Only, Steps, Elapses, Stays}
+use Rattle.qc_disk.specs.Disk.{DiskView, next, Rose, HasCause, Torn, Cut, ImagesFollow, Within, Only, Steps, Elapses, Stays}
 use Rattle.qc_disk.specs.Replay.{Act, nothing, wrote, cut_to, synced, does, leaves, replayed, images, syncs_in}
 use Rattle.qc_disk.specs.Laws.{torn_same, torn-written, cut_same, cut-taken, image_now}
 use Rattle.qc_disk.specs.Tape.{tape_first, tape_acts, tape_bytes, Applied, Untouched}
@@ -39,7 +39,7 @@ turned-err T U old new act Failed turned = turned
 turned-err T U old new act Memory turned = turned
 
 -- time goes on for a disk as it does for its record
-pub elapsed : (before now : View) → Passes before.moment now.moment before.left_at now.left_at before.may_leave now.may_leave → Elapses before now
+pub elapsed : (before now : DiskView) → Passes before.moment now.moment before.left_at now.left_at before.may_leave now.may_leave → Elapses before now
 elapsed before now time = record { later = time.later; earlier = time.earlier; inside = time.inside; until = time.until }
 
 pub turn-time : {T : Type 0} (old new : MemDisk) (act : Act) (result : Result T DiskNo) → Turned old new act result
@@ -76,7 +76,7 @@ turn-memory old new act (Err Memory) turned is = unmade-stays old new turned
 
 -- what a listed call leaves, by whether it did its work
 failing-left : (old new : MemDisk) (act : Act) (step : List ℕ → List ℕ → Type 0) → ((c : List ℕ) → step c c) → ((c : List ℕ) → leaves act (mem_bytes old) (images_of old) c → (d : List ℕ) × images_of old d × step d c)
-    → Failing old new act → Follows step (images_of old) (images_of new)
+    → Failing old new act → ImagesFollow step (images_of old) (images_of new)
 failing-left old new act step same acts failing c left =
     by failing.done (applied-left old.tape new.tape _ failing.tape (mem_replays old) c left)
   where
@@ -85,19 +85,19 @@ failing-left old new act step same acts failing c left =
     by false left = (c, left, same c)
 
 pub turn-follows : {T : Type 0} (old new : MemDisk) (act : Act) (step : List ℕ → List ℕ → Type 0) (result : Result T DiskNo) → ((c : List ℕ) → step c c) → ((c : List ℕ) → leaves act (mem_bytes old) (images_of old) c → (d : List ℕ) × images_of old d × step d c)
-    → Turned old new act result → Follows step (images_of old) (images_of new)
+    → Turned old new act result → ImagesFollow step (images_of old) (images_of new)
 turn-follows old new act step (Ok answer) same acts turned = λ c left. acts c (applied-left old.tape new.tape act turned.tape (mem_replays old) c left)
 turn-follows old new act step (Err Failed) same acts turned = failing-left old new act step same acts turned
 turn-follows old new act step (Err Memory) same acts turned = λ c left. (c, untouched-left old.tape new.tape turned.tape c left, same c)
 
-pub turn-torn : {T : Type 0} (old new : MemDisk) (at : ℕ) (bytes : List ℕ) (result : Result T DiskNo) → Turned old new (wrote at bytes) result → Follows (Torn at (length bytes)) (images_of old) (images_of new)
+pub turn-torn : {T : Type 0} (old new : MemDisk) (at : ℕ) (bytes : List ℕ) (result : Result T DiskNo) → Turned old new (wrote at bytes) result → ImagesFollow (Torn at (length bytes)) (images_of old) (images_of new)
 turn-torn old new at bytes result turned = turn-follows old new (wrote at bytes) (Torn at (length bytes)) result (torn_same at (length bytes)) (λ c left. left) turned
 
-pub turn-cut : {T : Type 0} (old new : MemDisk) (to : ℕ) (result : Result T DiskNo) → Turned old new (cut_to to) result → Follows (Cut to) (images_of old) (images_of new)
+pub turn-cut : {T : Type 0} (old new : MemDisk) (to : ℕ) (result : Result T DiskNo) → Turned old new (cut_to to) result → ImagesFollow (Cut to) (images_of old) (images_of new)
 turn-cut old new to result turned = turn-follows old new (cut_to to) (Cut to) result (cut_same to) (λ c left. left) turned
 
 -- there are no images but the old ones
-within : (before now : List ℕ → Type 0) → Follows (λ d c. c ≡ d) before now → Within before now
+within : (before now : List ℕ → Type 0) → ImagesFollow (λ d c. c ≡ d) before now → Within before now
 within before now follows c left = let from = follows c left in subst before (sym from.2) from.1
 
 pub turn-still : {T : Type 0} (old new : MemDisk) (result : Result T DiskNo) → Turned old new nothing result → Within (images_of old) (images_of new)

@@ -2,7 +2,7 @@
 use Rattle.std.specs.Prelude.{◌≡◌, ◌<◌, ◌≤◌, ◌⊎◌, ◌↔◌, ℕ, ◌+◌, ◌-◌, ◌^◌, min, max, List, ◌++◌, length, take, drop, slice_index, Option, Some, None}
 
 -- A disk at a moment.
-pub record View : Type 1 where
+pub record DiskView : Type 1 where
   -- the bytes that a read returns, where the disk tells
   pub content : Option (List ℕ)
   -- how many bytes there are: as a disk that does not tell its bytes last knew it
@@ -49,8 +49,8 @@ pub record Cut (to : ℕ) (old new : List ℕ) : Type 0 where
   pub no_longer : length new ≤ length old
 
 -- each new image is an old one after a step
-abbrev pub Follows : (List ℕ → List ℕ → Type 0) → (List ℕ → Type 0) → (List ℕ → Type 0) → Type 0
-Follows step before now = (c : List ℕ) → now c → (d : List ℕ) × before d × step d c
+abbrev pub ImagesFollow : (List ℕ → List ℕ → Type 0) → (List ℕ → Type 0) → (List ℕ → Type 0) → Type 0
+ImagesFollow step before now = (c : List ℕ) → now c → (d : List ℕ) × before d × step d c
 
 -- there are no images but those from before
 abbrev pub Within : (List ℕ → Type 0) → (List ℕ → Type 0) → Type 0
@@ -82,7 +82,7 @@ Holds None at bytes = Unit {0}
 Holds (Some content) at bytes = bytes ≡ take (length bytes) (drop at content)
 
 -- Time goes on: what a crash left at earlier moments stays, at a moment of the call it leaves what it left before or what it leaves now, and until the call has ended all that it left before.
-pub record Elapses (before now : View) : Type 0 where
+pub record Elapses (before now : DiskView) : Type 0 where
   pub later : before.moment ≤ now.moment
   pub earlier : (t : ℕ) (c : List ℕ) → t < before.moment → now.left_at t c ↔ before.left_at t c
   pub inside : (t : ℕ) (c : List ℕ) → before.moment ≤ t → t ≤ now.moment → now.left_at t c → before.may_leave c ⊎ now.may_leave c
@@ -93,33 +93,33 @@ abbrev pub Advances : ℕ → ℕ → Type 0 → Type 0
 Advances before now NoMemory = NoMemory ⊎ Rose before now
 
 -- All but the clock is as before.
-pub record Stays (before now : View) : Type 0 where
+pub record Stays (before now : DiskView) : Type 0 where
   pub content : now.content ≡ before.content
   pub size : now.size ≡ before.size
   pub images : (c : List ℕ) → now.may_leave c ↔ before.may_leave c
   pub faults : now.faults ≡ before.faults
 
 -- A crash at any moment since old leaves what has P; earlier moments are as they were.
-pub record LeavesOnly {D : Type 0} (view : D → View) (old new : D) (P : List ℕ → Type 0) : Type 0 where
+pub record LeavesOnly {D : Type 0} (view : D → DiskView) (old new : D) (P : List ℕ → Type 0) : Type 0 where
   pub later : (view old).moment ≤ (view new).moment
   pub each : (t : ℕ) (c : List ℕ) → (view old).moment ≤ t → t ≤ (view new).moment → (view new).left_at t c → P c
   pub earlier : (t : ℕ) (c : List ℕ) → t < (view old).moment → (view new).left_at t c ↔ (view old).left_at t c
 
 -- All that a crash leaves at a moment has P.
-abbrev pub AllAt : {D : Type 0} → (D → View) → D → ℕ → (List ℕ → Type 0) → Type 0
+abbrev pub AllAt : {D : Type 0} → (D → DiskView) → D → ℕ → (List ℕ → Type 0) → Type 0
 AllAt view disk t P = (c : List ℕ) → (view disk).left_at t c → P c
 
 -- Since old, what all images at a moment have, all have later; and all have what all had when the run began.
-pub record Grows {D : Type 0} (view : D → View) (old new : D) (P : List ℕ → Type 0) : Type 0 where
+pub record Grows {D : Type 0} (view : D → DiskView) (old new : D) (P : List ℕ → Type 0) : Type 0 where
   pub from_before : (t : ℕ) → (view old).moment ≤ t → t ≤ (view new).moment → AllAt view old (view old).moment P → AllAt view new t P
   pub within : (t u : ℕ) → (view old).moment ≤ t → t ≤ u → u ≤ (view new).moment → AllAt view new t P → AllAt view new u P
 
 -- Since old images only fall away: each at a later moment is one at an earlier.
-pub record FallsAway {D : Type 0} (view : D → View) (old new : D) : Type 0 where
+pub record FallsAway {D : Type 0} (view : D → DiskView) (old new : D) : Type 0 where
   pub from_before : (t : ℕ) (c : List ℕ) → (view old).moment ≤ t → t ≤ (view new).moment → (view new).left_at t c → (view old).left_at (view old).moment c
   pub within : (t u : ℕ) (c : List ℕ) → (view old).moment ≤ t → t ≤ u → u ≤ (view new).moment → (view new).left_at u c → (view new).left_at t c
 
 -- Since old there was one change: from each moment on images only fall away, or at it all are still left that were when the run began.
-abbrev pub ChangesOnce : {D : Type 0} → (D → View) → D → D → Type 0
+abbrev pub ChangesOnce : {D : Type 0} → (D → DiskView) → D → D → Type 0
 ChangesOnce view old new = (t u : ℕ) → (view old).moment ≤ t → t ≤ u → u ≤ (view new).moment
     → ((c : List ℕ) → (view new).left_at u c → (view new).left_at t c) ⊎ ((c : List ℕ) → (view old).left_at (view old).moment c → (view new).left_at t c)

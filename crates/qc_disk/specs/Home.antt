@@ -5,7 +5,7 @@ use Rattle.qc_disk.specs.Given.{given_list}
 use Rattle.qc_disk.specs.Laws.{image_now, at_end}
 use Rattle.qc_disk.specs.MemDisk.{mem_first, mem_acts, mem_bytes, mem_replays, mem_images, mem_at, mem_faults, mem_syncs, IsEmpty}
 use Rattle.qc_disk.specs.declared.file.FileDisk.{FileDisk}
-use Rattle.qc_disk.specs.Shop.{View}
+use Rattle.qc_disk.specs.Shop.{ShopView}
 use Rattle.qc_disk.specs.declared.home.HomeDisk.{HomeDisk}
 use Rattle.qc_disk.specs.declared.home.HomeDisk.TheVariants.{Memory, File}
 use Rattle.qc_disk.specs.declared.home.HomeShop.{HomeShop}
@@ -67,7 +67,7 @@ home_offers [] = Some []
 home_offers (byte ∷ rest) = None
 
 -- what the shop is: the disks that it would give have not failed
-abbrev pub home_view : HomeShop → View
+abbrev pub home_view : HomeShop → ShopView
 home_view shop = record {
   offers = λ place which. home_offers place;
   counts = λ place which. 0;

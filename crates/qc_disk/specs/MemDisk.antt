@@ -1,7 +1,7 @@
 -- The parts of a disk in memory, and what a call may do to it.
 use Rattle.std.specs.Prelude.{◌≡◌, ℕ, ◌+◌, List, [], length, Option, Some, None, Bool, if◌then◌else◌, Result, Ok, Err}
 use Rattle.std.proofs.Common.{sym}
-use Rattle.qc_disk.specs.Disk.{View, next}
+use Rattle.qc_disk.specs.Disk.{DiskView, next}
 use Rattle.qc_disk.specs.Replay.{Act, nothing, replayed, fault_at, syncs_in, images, images_at}
 use Rattle.qc_disk.specs.Kept.{records_kept}
 use Rattle.qc_disk.specs.Laws.{exact-replayed}
@@ -48,7 +48,7 @@ abbrev pub mem_syncs : MemDisk → ℕ
 mem_syncs disk = syncs_in (mem_acts disk)
 
 -- what it is, seen as a disk
-abbrev pub mem_view : MemDisk → View
+abbrev pub mem_view : MemDisk → DiskView
 mem_view disk = record {
   content = Some (mem_bytes disk);
   size = length (mem_bytes disk);

@@ -2,7 +2,7 @@
 use Rattle.std.specs.Prelude.{◌≡◌, ℕ, List, [], map, Some, slice_index_or, slice_set, Bool, true, false, Result, Ok, Err}
 use Rattle.qc_disk.specs.Given.{given_list}
 use Rattle.qc_disk.specs.MemDisk.{mem_bytes, mem_faults, IsEmpty}
-use Rattle.qc_disk.specs.Shop.{View}
+use Rattle.qc_disk.specs.Shop.{ShopView}
 use Rattle.qc_disk.specs.declared.disk.DiskNo.{DiskNo}
 use Rattle.qc_disk.specs.declared.disk.DiskNo.TheVariants.{Failed, Memory}
 use Rattle.qc_disk.specs.declared.memory.MemDisk.{MemDisk}
@@ -29,7 +29,7 @@ abbrev pub shop_counts : MemShop → ℕ → ℕ
 shop_counts shop which = slice_index_or (map mem_faults (shop_disks shop)) which 0
 
 -- what it is, seen as a shop
-abbrev pub shop_view : MemShop → View
+abbrev pub shop_view : MemShop → ShopView
 shop_view shop = record {
   offers = λ place which. Some (shop_bytes shop which);
   counts = λ place which. shop_counts shop which;

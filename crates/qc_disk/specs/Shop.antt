@@ -3,7 +3,7 @@ use Rattle.std.specs.Prelude.{◌≡◌, ℕ, List, [], ◌∷◌, Option, Some,
 use Rattle.std.specs.List.{range_with_len}
 
 -- A shop at a moment.
-pub record View : Type 0 where
+pub record ShopView : Type 0 where
   -- the bytes of the disk that it would give, by its place and number, where it tells
   pub offers : List ℕ → ℕ → Option (List ℕ)
   -- how often that disk has failed, up to `2^64 - 1`
@@ -14,7 +14,7 @@ pub record View : Type 0 where
   pub gave : List (List ℕ × ℕ)
 
 -- It tells the same of the disk that it would give for a place and a number.
-pub record TellsAlike (before now : View) (place : List ℕ) (which : ℕ) : Type 0 where
+pub record TellsAlike (before now : ShopView) (place : List ℕ) (which : ℕ) : Type 0 where
   pub offers : now.offers place which ≡ before.offers place which
   pub counts : now.counts place which ≡ before.counts place which
 

@@ -1,7 +1,7 @@
 //! A disk as its users see it: what a read returns, and what a crash may leave.
 ghost use Rattle.std.specs.Prelude.{◌≡◌, ◌≤◌, ◌↔◌, ◌+◌, ℕ, max, List, length, take, option_map, IfOk, OnOk, OnErr, IsErrOf};
 ghost use Rattle.qc_disk.specs.declared.disk.DiskNo.TheVariants.{Memory};
-ghost use Rattle.qc_disk.specs.Disk.{View, HasCause, Rose, written, Torn, Cut, Follows, Within, Only, IsImage, HasLength, Steps, Holds, Elapses, Advances, Stays};
+ghost use Rattle.qc_disk.specs.Disk.{DiskView, HasCause, Rose, written, Torn, Cut, ImagesFollow, Within, Only, IsImage, HasLength, Steps, Holds, Elapses, Advances, Stays};
 
 use std::alloc::{AllocError, AllocFailed};
 use thiserror::Error;
@@ -36,7 +36,7 @@ impl<T: Drop> From<AllocFailed<T>> for DiskNo {
 /// Bytes that outlive a crash, in part.
 pub trait Disk {
     /// What a read returns, what a crash may leave, now and at each moment before, and the counts.
-    ghost view: { Self → View };
+    ghost view: { Self → DiskView };
 
     /// How many bytes there are.
     fn len(&mut self) -> Result<u64, DiskNo>
@@ -74,7 +74,7 @@ pub trait Disk {
             (at + length bytes.now)) }
         ensures failed { IsErrOf result DiskNo.Failed
             → Steps (Torn at (length bytes.now)) (view self.old).content (view self.new).content }
-        ensures crash { Follows (Torn at (length bytes.now)) (view self.old).may_leave
+        ensures crash { ImagesFollow (Torn at (length bytes.now)) (view self.old).may_leave
             (view self.new).may_leave }
         ensures time { Elapses (view self.old) (view self.new) }
         ensures advances { Advances (view self.old).moment (view self.new).moment
@@ -91,7 +91,7 @@ pub trait Disk {
         ensures size { OnOk result ((view self.new).size ≡ to) }
         ensures failed { IsErrOf result DiskNo.Failed
             → Steps (Cut to) (view self.old).content (view self.new).content }
-        ensures crash { Follows (Cut to) (view self.old).may_leave (view self.new).may_leave }
+        ensures crash { ImagesFollow (Cut to) (view self.old).may_leave (view self.new).may_leave }
         ensures time { Elapses (view self.old) (view self.new) }
         ensures advances { Advances (view self.old).moment (view self.new).moment
             (IsErrOf result DiskNo.Memory) }

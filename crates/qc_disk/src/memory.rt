@@ -97,7 +97,7 @@ impl MemDisk {
 
 impl Disk for MemDisk {
     ghost use Rattle.std.specs.Prelude.{◌≤◌, ◌+◌, max, take, option_map, Some, IfOk, OnOk, OnErr, IsErrOf};
-    ghost use Rattle.qc_disk.specs.Disk.{HasCause, Rose, written, Torn, Cut, Follows, Within, Only, Steps, Holds, Elapses, Advances, Stays};
+    ghost use Rattle.qc_disk.specs.Disk.{HasCause, Rose, written, Torn, Cut, ImagesFollow, Within, Only, Steps, Holds, Elapses, Advances, Stays};
     ghost use Rattle.qc_disk.specs.Replay.{nothing, wrote, cut_to, synced};
     ghost use Rattle.qc_disk.specs.Laws.{image_now, at_end};
     ghost use Rattle.qc_disk.specs.MemDisk.{mem_first, mem_acts, mem_bytes, mem_faults, mem_syncs, mem_images, mem_replays, mem_view, Turned};
@@ -158,7 +158,7 @@ impl Disk for MemDisk {
         ensures failed { IsErrOf result DiskNo.Failed
             → Steps (Torn at (length bytes.now)) (Some (mem_bytes self.old))
             (Some (mem_bytes self.new)) }
-        ensures crash { Follows (Torn at (length bytes.now)) (mem_images self.old)
+        ensures crash { ImagesFollow (Torn at (length bytes.now)) (mem_images self.old)
             (mem_images self.new) }
         ensures time { Elapses (mem_view self.old) (mem_view self.new) }
         ensures advances { Advances (length (mem_acts self.old)) (length (mem_acts self.new))
@@ -179,7 +179,7 @@ impl Disk for MemDisk {
         ensures size { OnOk result (length (mem_bytes self.new) ≡ to) }
         ensures failed { IsErrOf result DiskNo.Failed
             → Steps (Cut to) (Some (mem_bytes self.old)) (Some (mem_bytes self.new)) }
-        ensures crash { Follows (Cut to) (mem_images self.old) (mem_images self.new) }
+        ensures crash { ImagesFollow (Cut to) (mem_images self.old) (mem_images self.new) }
         ensures time { Elapses (mem_view self.old) (mem_view self.new) }
         ensures advances { Advances (length (mem_acts self.old)) (length (mem_acts self.new))
             (IsErrOf result DiskNo.Memory) }

@@ -1,7 +1,7 @@
 //! Where disks come from.
 ghost use Rattle.std.specs.Prelude.{◌≡◌, ◌≢◌, ◌++◌, ℕ, List, IfOk, OnErr, IsErrOf};
 ghost use Rattle.qc_disk.specs.Disk.{HasCause};
-ghost use Rattle.qc_disk.specs.Shop.{View, Tells, TellsAlike, if_given};
+ghost use Rattle.qc_disk.specs.Shop.{ShopView, Tells, TellsAlike, if_given};
 
 mod given;
 mod memory;
@@ -17,7 +17,7 @@ pub trait Shop {
 
     /// The bytes of the disks that it would give, where it tells, how often each has failed, its own faults, and what
     /// it gave.
-    ghost view: { Self → View };
+    ghost view: { Self → ShopView };
 
     /// Gives a disk. The others are as before, and so is each where it fails.
     fn obtain(&mut self, alloc: Global, place: &str, which: u8) -> Result<Self::D, DiskNo>

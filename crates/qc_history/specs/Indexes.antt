@@ -27,7 +27,7 @@ abbrev pub AreOf : Indexes → Past → Type 0
 AreOf indexes past = AreIndexes past indexes
 
 -- There is room for an entry that may come next.
-pub record HasRoom (e : Entry) (past : Past) (indexes : Indexes) : Type 0 where
+pub record IndexesHaveRoom (e : Entry) (past : Past) (indexes : Indexes) : Type 0 where
   pub refusals : Reaches past (refused_name e.event) indexes.refusals.after.items
   pub first_grants : Reaches past (granted_name e.event) indexes.first_grants.after.items
   pub aborts : HaveRoomFor e past indexes.aborts.last.items indexes.aborts.before.items
@@ -35,7 +35,7 @@ pub record HasRoom (e : Entry) (past : Past) (indexes : Indexes) : Type 0 where
 
 -- what is kept is kept of a history, and has room for the entry
 abbrev pub AreReady : Indexes → Entry → Past → Type 0
-AreReady indexes e past = AreOf indexes past × HasRoom e past indexes
+AreReady indexes e past = AreOf indexes past × IndexesHaveRoom e past indexes
 
 -- a fact holds of a legal history, where this is kept beside it and its names are indexed
 abbrev pub OfEntries : Indexes → Shape → Past → (Past → Type 0) → Type 0

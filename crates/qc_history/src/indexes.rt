@@ -10,7 +10,7 @@ ghost use Rattle.qc_history.specs.Index.{IsOf};
 ghost use Rattle.qc_history.specs.Standing.{OfEach};
 ghost use Rattle.qc_history.specs.Growing.{CanFollow};
 ghost use Rattle.qc_history.specs.Grants.{Differs, tuple_at};
-ghost use Rattle.qc_history.specs.Indexes.{AreOf, AreKept, AreReady, HasRoom, OfEntries};
+ghost use Rattle.qc_history.specs.Indexes.{AreOf, AreKept, AreReady, IndexesHaveRoom, OfEntries};
 
 use crate::aborts::Aborts;
 use crate::answered::{granted_name, refusal_of, refused_name, tuple_of};
@@ -56,7 +56,7 @@ impl Indexes {
     pub fn make_room(&mut self, entry: &Entry, names: &Index, at: u32) -> Result<(), AllocError>
         ensures same { (past : Past) → AreOf self.old past → AreOf self.new past }
         ensures room { OnOk result (OfEach (IsOf names.now) (λ past. at ≡ length past →
-            HasRoom entry.now past self.new)) }
+            IndexesHaveRoom entry.now past self.new)) }
     {
         self.refusals.make_room(refused_name(entry), names)?;
         self.first_grants.make_room(granted_name(entry), names)?;

@@ -31,27 +31,27 @@ use Rattle.qc_interp.specs.Deeds.{Deed}
 
 -- A branch as it stands: its client and what that has seen, its body, the first of its tries, and what they came to once it
 -- has run.
-pub record Stands : Type 0 where
+pub record StandingBranch : Type 0 where
   pub view : ClientView
   pub body : Numbered
   pub first : Name
   pub came : Option (Result BranchCame Short)
 
-abbrev pub stands : {T : Type 0} → (T → ClientView) → Held T → Stands
+abbrev pub stands : {T : Type 0} → (T → ClientView) → Held T → StandingBranch
 stands view b = record { view = view b.tx; body = numbered b.body.now; first = b.first; came = b.came }
 
 -- a branch whose first try has begun
-abbrev pub at_first : ClientView → Numbered → Name → Stands
+abbrev pub at_first : ClientView → Numbered → Name → StandingBranch
 at_first view body first = record { view = view; body = body; first = first; came = None }
 
 -- the branch of which it stands so
-abbrev pub branch_in : Stands → Branch
+abbrev pub branch_in : StandingBranch → Branch
 branch_in b = record { client = b.view.client; body = b.body; first = b.first }
 
 -- AS THEY BEGIN
 
 -- A branch was made, and the first try of its body begun: both have seen its start, and neither made anything else.
-pub record HasBegun (old new : ClientView) (of : Name) (b : Stands) : Type 0 where
+pub record HasBegun (old new : ClientView) (of : Name) (b : StandingBranch) : Type 0 where
   pub client : b.view.client ≡ branch_of old.client b.view.client.number of
   pub other : is_own old.client b.view.client.number ≡ false
   pub not_out : list_any (λ k. k == b.view.client.number) old.client.out ≡ false
@@ -69,12 +69,12 @@ pub record NotBegun (old new : ClientView) (of : Name) (why : TxNo) : Type 0 whe
   pub refused : WasRefused new.client of old.seen new.seen why
 
 -- branches were begun one after another
-abbrev pub BeganInTurn : ClientView → Name → List Stands → ClientView → Type 0
+abbrev pub BeganInTurn : ClientView → Name → List StandingBranch → ClientView → Type 0
 BeganInTurn old of [] new = new ≡ old
 BeganInTurn old of (b ∷ bs) new = (mid : ClientView) × HasBegun old mid of b × BeganInTurn mid of bs new
 
 -- Some of them were begun, and the next was not.
-abbrev pub BeganSome : ClientView → Name → List Stands → ClientView → TxNo → Type 0
+abbrev pub BeganSome : ClientView → Name → List StandingBranch → ClientView → TxNo → Type 0
 BeganSome old of bs new why = (mid : ClientView) × BeganInTurn old of bs mid × NotBegun mid new of why
 
 -- AS THEY ARE SHOWN
@@ -86,7 +86,7 @@ InPairs P (x ∷ xs) (y ∷ ys) = P x y × InPairs P xs ys
 InPairs P _ _ = ⊥
 
 -- A branch has seen what was seen at some time, and more, and has made nothing.
-pub record WasShown (seen : Past) (old new : Stands) : Type 0 where
+pub record WasShown (seen : Past) (old new : StandingBranch) : Type 0 where
   pub client : new.view.client ≡ old.view.client
   pub body : new.body ≡ old.body
   pub first : new.first ≡ old.first
@@ -97,7 +97,7 @@ pub record WasShown (seen : Past) (old new : Stands) : Type 0 where
 -- AS THEY RUN
 
 -- A branch's client has begun the first try of its body, and nothing else. Below its root it may begin further ones.
-pub record MayRun (of : Name) (b : Stands) : Type 0 where
+pub record MayRun (of : Name) (b : StandingBranch) : Type 0 where
   pub root : b.view.client.root ≡ of
   pub parent : Started b.view.seen of (λ e. IsUser e.kind)
   pub nonroot : 0 < length of
@@ -119,11 +119,11 @@ came_at_last finish.Committed last = came.Through
 came_at_last (finish.Stopped again) last = came.Failed last
 
 -- a call to begin is refused so where it is not want of memory or room
-abbrev pub IsRefusal : TxNo → Type 0
-IsRefusal (tx_no.Orphan a) = Unit {0}
-IsRefusal tx_no.Ended = Unit {0}
-IsRefusal tx_no.Ready = Unit {0}
-IsRefusal _ = ⊥
+abbrev pub IsCallRefusal : TxNo → Type 0
+IsCallRefusal (tx_no.Orphan a) = Unit {0}
+IsCallRefusal tx_no.Ended = Unit {0}
+IsCallRefusal tx_no.Ready = Unit {0}
+IsCallRefusal _ = ⊥
 
 -- the tries of a branch came to this
 abbrev pub TriesEnd : Client → Numbered → Past → BranchCame → Type 0
@@ -132,7 +132,7 @@ TriesEnd c body now came.Through =
 TriesEnd c body now (came.Failed last) =
     RanTries Reach.to_the_end ⊥ c body now × ((front : List Name) × (tries_by c now ≡ front ++ last ∷ [])) × Started now last (λ e. IsUser e.kind) × LastCommitted false c now last
 TriesEnd c body now (came.Refused why) =
-    RanTries Reach.to_the_end (Unit {0}) c body now × (Refuses now c.root why × IsRefusal why) × (AreTriesOurs c now → was_tried (mine c now) false body.tries (map Deed.child (tries_by c now)) ≡ false)
+    RanTries Reach.to_the_end (Unit {0}) c body now × (Refuses now c.root why × IsCallRefusal why) × (AreTriesOurs c now → was_tried (mine c now) false body.tries (map Deed.child (tries_by c now)) ≡ false)
 
 -- A branch ran, or was cut off for want of memory or room.
 abbrev pub CameSo : Client → Numbered → Past → Option (Result BranchCame Short) → Type 0
@@ -140,7 +140,7 @@ CameSo c body now None = ⊥
 CameSo c body now (Some (Ok came)) = TriesEnd c body now came
 CameSo c body now (Some (Err why)) = RanTries Reach.cut_off (Unit {0}) c body now × IsWant now why
 
-pub record HasRun (old new : Stands) : Type 0 where
+pub record HasRun (old new : StandingBranch) : Type 0 where
   pub joined : HasJoined old.view.client old.view.seen new.view.client
   pub later : IsLater old.view.client old.view.seen new.view.seen
   pub body : new.body ≡ old.body
@@ -151,14 +151,14 @@ pub record HasRun (old new : Stands) : Type 0 where
 -- AS THEY ARE MERGED
 
 -- Branches can be merged one after another, where these are out, by a client of this link.
-abbrev pub AreOut : List ℕ → Option Net → List Stands → Type 0
+abbrev pub AreOut : List ℕ → Option Net → List StandingBranch → Type 0
 AreOut out net [] = Unit {0}
 AreOut out net (b ∷ bs) =
     (list_any (λ k. k == b.view.client.number) out ≡ true) × (b.view.client.out ≡ []) × (b.view.client.net ≡ net) × MeetsLink b.view
     × AreOut (filter (λ k. not (k == b.view.client.number)) out) net bs
 
 -- branches were merged one after another
-abbrev pub MergedInTurn : ClientView → List Stands → ClientView → Type 0
+abbrev pub MergedInTurn : ClientView → List StandingBranch → ClientView → Type 0
 MergedInTurn old [] new = new ≡ old
 MergedInTurn old (b ∷ bs) new = (mid : ClientView) × Merged old b.view mid × MergedInTurn mid bs new
 
@@ -184,7 +184,7 @@ came_behind (Ok so_far) must (Some (Err short)) = Err short
 came_behind (Ok so_far) must (Some (Ok one)) = Ok (came_worse so_far must one)
 
 -- what branches came to together, behind others
-abbrev pub row_came : Result BranchCame Short → List Stands → Result BranchCame Short
+abbrev pub row_came : Result BranchCame Short → List StandingBranch → Result BranchCame Short
 row_came so_far [] = so_far
 row_came so_far (b ∷ bs) = row_came (came_behind so_far b.body.must b.came) bs
 
@@ -207,7 +207,7 @@ WentBehind c of before now came result = ⊥
 
 -- a call to begin was refused, where it is not want of memory or room
 abbrev pub RefusedSo : Past → Name → TxNo → Type 0
-RefusedSo now of why = Refuses now of why × IsRefusal why
+RefusedSo now of why = Refuses now of why × IsCallRefusal why
 
 -- a child that is a user transaction
 abbrev pub IsFirst : Name → Past → Name → Type 0

@@ -6,7 +6,7 @@ use Rattle.qc_disk.specs.declared.disk.Disk.{Ghosts}
 use Rattle.qc_journal.specs.Device.{Touched}
 use Rattle.qc_journal.specs.Image.{IsShort, EndsAt, HasRecords, HasAt, behind_gate}
 use Rattle.qc_journal.specs.State.{IsUpState, hand_of, missing_at}
-use Rattle.qc_journal.specs.Journal.{Stands, IsUp, Keeps}
+use Rattle.qc_journal.specs.Journal.{ImageStands, IsUp, Keeps}
 use Rattle.qc_journal.specs.declared.journal.Journal.{Journal}
 use Rattle.qc_journal.specs.declared.journal.State.{State}
 use Rattle.qc_journal.specs.declared.journal.State.TheVariants.{Up, Down}
@@ -15,7 +15,7 @@ use Rattle.qc_journal.proofs.Growing.{has_still}
 use Rattle.qc_journal.proofs.Images.{Staged, torn_behind, written_behind, torn_gate, written_gate}
 
 -- with nothing in hand
-pub ends_up : (place : ℕ) (bodies : List (List ℕ)) (state : State) (image : List ℕ) → IsUpState state → Stands place bodies (hand_of state) image → EndsAt place bodies image
+pub ends_up : (place : ℕ) (bodies : List (List ℕ)) (state : State) (image : List ℕ) → IsUpState state → ImageStands place bodies (hand_of state) image → EndsAt place bodies image
 ends_up place bodies (Up missing) image up stands = stands
 ends_up place bodies (Down held) image up stands = absurd up
 

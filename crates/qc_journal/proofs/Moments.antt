@@ -2,9 +2,9 @@
 use Rattle.std.proofs.Common.{◌≡◌, ◌≤◌, inl, inr, ⊎_elim, ℕ, List, subst, arith}
 use Rattle.std.specs.Prelude.{◌↔◌}
 use Rattle.std.proofs.lemmas.Bool.{cases_lt}
-use Rattle.qc_disk.specs.Disk.{View, Elapses, LeavesOnly, AllAt, Grows, FallsAway, ChangesOnce, Within}
+use Rattle.qc_disk.specs.Disk.{DiskView, Elapses, LeavesOnly, AllAt, Grows, FallsAway, ChangesOnce, Within}
 
-module _ {D : Type 0} (view : D → View) where
+module _ {D : Type 0} (view : D → DiskView) where
   -- what a crash leaves at a moment, at another name of it
   at_same : (disk : D) (t u : ℕ) (c : List ℕ) → t ≡ u → (view disk).left_at t c → (view disk).left_at u c
   at_same disk t u c is left = subst (λ n. (view disk).left_at n c) is left

@@ -5,13 +5,13 @@ use Rattle.std.proofs.lemmas.List.Elements.{All-nil}
 use Rattle.std.proofs.lemmas.Bool.{cases_lt}
 use Rattle.qc_disk.specs.Disk.{HasLength, Only}
 use Rattle.qc_journal.specs.Image.{IsShort, EndsAt, row}
-use Rattle.qc_journal.specs.Journal.{Stands, with_hand, behind_hand}
+use Rattle.qc_journal.specs.Journal.{ImageStands, with_hand, behind_hand}
 use Rattle.qc_journal.specs.Found.{Finds, found_bodies}
 use Rattle.qc_journal.specs.declared.image.Found.{Found}
 use Rattle.qc_journal.proofs.Images.{place_within, closed_gate, open_gate}
 
 -- the body in hand stands exactly where its gate is open
-pub by_gate : (place now : ℕ) (bodies : List (List ℕ)) (hand : Option (List ℕ)) (bytes : List ℕ) (is_open : Bool) → Stands place bodies hand bytes → IsSome hand → IsTrue is_open ↔ (get_or bytes place 0 ≡ 1)
+pub by_gate : (place now : ℕ) (bodies : List (List ℕ)) (hand : Option (List ℕ)) (bytes : List ℕ) (is_open : Bool) → ImageStands place bodies hand bytes → IsSome hand → IsTrue is_open ↔ (get_or bytes place 0 ≡ 1)
     → now ≡ (if is_open then behind_hand place hand else place) → EndsAt now (if is_open then with_hand bodies hand else bodies) bytes
 by_gate place now bodies None bytes is_open stands held tells is = absurd (cc)
 by_gate place now bodies (Some body) bytes true (inl ends) held tells is = absurd (closed_gate place bodies bytes ends (tells.0 refl))
@@ -20,7 +20,7 @@ by_gate place now bodies (Some body) bytes false (inl ends) held tells is = subs
 by_gate place now bodies (Some body) bytes false (inr ends) held tells is = let no : false ≡ true = tells.1 (open_gate place bodies body bytes ends) in absurd (cc)
 
 -- some records stand
-stands_ends : (place : ℕ) (bodies : List (List ℕ)) (hand : Option (List ℕ)) (image : List ℕ) → Stands place bodies hand image → (p : ℕ) × (b : List (List ℕ)) × EndsAt p b image
+stands_ends : (place : ℕ) (bodies : List (List ℕ)) (hand : Option (List ℕ)) (image : List ℕ) → ImageStands place bodies hand image → (p : ℕ) × (b : List (List ℕ)) × EndsAt p b image
 stands_ends place bodies None image ends = (place, bodies, ends)
 stands_ends place bodies (Some body) image (inl ends) = (place, bodies, ends)
 stands_ends place bodies (Some body) image (inr ends) = (place + 5 + length body, bodies ++ body ∷ [], ends)
@@ -34,7 +34,7 @@ ends_blank place (body ∷ bodies) image ends short =
     absurd (omega (arith, same, all, short))
 
 -- what is found in the bytes of a disk that keeps records
-pub found_ends : (place : ℕ) (bodies : List (List ℕ)) (hand : Option (List ℕ)) (told : Option (List ℕ)) (bytes : List ℕ) (size : ℕ) (found : Found) → told ≡ Some bytes → HasLength told size → Stands place bodies hand bytes → Finds told size found
+pub found_ends : (place : ℕ) (bodies : List (List ℕ)) (hand : Option (List ℕ)) (told : Option (List ℕ)) (bytes : List ℕ) (size : ℕ) (found : Found) → told ≡ Some bytes → HasLength told size → ImageStands place bodies hand bytes → Finds told size found
     → EndsAt found.place (found_bodies found) bytes
 found_ends place bodies hand told bytes size found is has stands finds =
     let long : size ≡ length bytes = subst (λ t. HasLength t size) is has in

@@ -47,15 +47,15 @@ behind_hand place None = place
 behind_hand place (Some body) = place + 5 + length body
 
 -- an image has these records, or these and the one in hand
-abbrev pub Stands : ℕ → List (List ℕ) → Option (List ℕ) → List ℕ → Type 0
-Stands place bodies None image = EndsAt place bodies image
-Stands place bodies (Some body) image = EndsAt place bodies image ⊎ EndsAt (place + 5 + length body) (bodies ++ body ∷ []) image
+abbrev pub ImageStands : ℕ → List (List ℕ) → Option (List ℕ) → List ℕ → Type 0
+ImageStands place bodies None image = EndsAt place bodies image
+ImageStands place bodies (Some body) image = EndsAt place bodies image ⊎ EndsAt (place + 5 + length body) (bodies ++ body ∷ []) image
 
 -- The disk tells its bytes, and whatever a crash may leave of it has these records, or these and the one in hand.
 pub record Keeps {D : Type 0} {g : Ghosts D} (journal : Journal D g) (bodies : List (List ℕ)) : Type 0 where
   pub bytes : List ℕ
   pub told : (g.view journal.disk).content ≡ Some bytes
-  pub each : (c : List ℕ) → (g.view journal.disk).may_leave c → Stands journal.place bodies (in_hand journal) c
+  pub each : (c : List ℕ) → (g.view journal.disk).may_leave c → ImageStands journal.place bodies (in_hand journal) c
   pub whole : IsUp journal → missing_at journal.place journal.state ≡ 0
 
 -- It is down, with this body in hand, at the same place.

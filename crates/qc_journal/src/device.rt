@@ -1,6 +1,6 @@
 //! Runs of calls of a disk.
 ghost use Rattle.std.specs.Prelude.{◌≡◌, ◌≤◌, ◌<◌, ◌+◌, ℕ, List, max, length, option_map, IfOk, IfSome, OnOk, OnErr, IsErrOf, IsTrue, ◌↔◌, slice_index};
-ghost use Rattle.qc_disk.specs.Disk.{HasCause, written, Torn, Follows, Within, Only, Steps, Holds, LeavesOnly, FallsAway, ChangesOnce};
+ghost use Rattle.qc_disk.specs.Disk.{HasCause, written, Torn, ImagesFollow, Within, Only, Steps, Holds, LeavesOnly, FallsAway, ChangesOnce};
 ghost use Rattle.qc_journal.specs.Device.{Touched};
 
 use qc_disk::{Disk, DiskNo};
@@ -17,7 +17,7 @@ pub(crate) fn write_synced<D: Disk>(disk: &mut D, at: u64, bytes: &[u8]) -> Resu
         (at + length bytes.now)) }
     ensures torn { Steps (Torn at (length bytes.now)) (D.view disk.old).content
         (D.view disk.new).content }
-    ensures crash { Follows (Torn at (length bytes.now)) (D.view disk.old).may_leave
+    ensures crash { ImagesFollow (Torn at (length bytes.now)) (D.view disk.old).may_leave
         (D.view disk.new).may_leave }
     ensures any_moment { LeavesOnly D.view disk.old disk.new
         (Touched (Torn at (length bytes.now)) (D.view disk.old).may_leave) }

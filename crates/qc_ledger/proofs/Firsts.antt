@@ -19,10 +19,10 @@ use Rattle.qc_codec.proofs.Exact.{all_again}
 use Rattle.qc_codec.proofs.Order.{each_none, each_push}
 use Rattle.qc_event.specs.declared.short.Short.TheVariants.{Memory, Room}
 use Rattle.qc_journal.specs.Image.{bodies_of}
-use Rattle.qc_ledger.specs.Image.{made_body, AreMadeFor, IsFault}
+use Rattle.qc_ledger.specs.Image.{made_body, AreMadeFor, IsLedgerFault}
 use Rattle.qc_ledger.specs.Reading.{IsFirstBad, IsLaterBad}
 use Rattle.qc_ledger.specs.Seen.{with_body}
-use Rattle.qc_ledger.specs.Refusing.{IsImage, IsOfBytes}
+use Rattle.qc_ledger.specs.Refusing.{IsOfLedgerImage, IsOfBytes}
 use Rattle.qc_ledger.specs.declared.fault.LedgerNo.{LedgerNo}
 use Rattle.qc_ledger.specs.declared.fault.LedgerNo.TheVariants.{Disk, Image, Short}
 use Rattle.qc_ledger.specs.declared.fault.LedgerNo.TheVariants as ledger_no
@@ -57,7 +57,7 @@ pub handed_on : {T : Type 0} (r : Result T LedgerNo) (fault : LedgerNo) (P Q : I
 handed_on (Ok x) fault P Q also same is = tt
 handed_on (Err e) fault P Q also same is = subst (IsOfBytes Q) (sym same) (bytes_also P Q also fault is)
 
-pub first_fault : (table : Table) (limit : ℕ) (first : List ℕ) (bodies rest : List (List ℕ)) → bodies ≡ first ∷ rest → (f : ImageFault) → IsFirstBad table first f → IsFault table limit bodies f
+pub first_fault : (table : Table) (limit : ℕ) (first : List ℕ) (bodies rest : List (List ℕ)) → bodies ≡ first ∷ rest → (f : ImageFault) → IsFirstBad table first f → IsLedgerFault table limit bodies f
 first_fault table limit first bodies rest is (Broken place) bad = bad
 first_fault table limit first bodies rest is (Grammar index) bad = (
   record { before = []; after = rest; item = first; split = is; size = bad.0; order = each_none MayStand; breaks = bad.1 },
@@ -126,16 +126,16 @@ begun (v ∷ bodies) some may = (past_push [] v.items ∙ made_tells (all_of bod
 
 -- A FAULT OF BYTES IS HANDED ON BY A MOUNTING
 
-image_of_bytes : (P Q : ImageFault → Type 0) → ((f : ImageFault) → P f → Q f) → (fault : LedgerNo) → IsOfBytes P fault → IsImage Q fault
+image_of_bytes : (P Q : ImageFault → Type 0) → ((f : ImageFault) → P f → Q f) → (fault : LedgerNo) → IsOfBytes P fault → IsOfLedgerImage Q fault
 image_of_bytes P Q also Disk is = tt
 image_of_bytes P Q also (Image bad) is = (is.0, also bad.fault is.1)
 image_of_bytes P Q also (ledger_no.Full place) is = is
 image_of_bytes P Q also (Short Memory) is = tt
 image_of_bytes P Q also (Short Room) is = is
 
-pub passed_on : {T : Type 0} (r : Result T LedgerNo) (fault : LedgerNo) (P Q : ImageFault → Type 0) → ((f : ImageFault) → P f → Q f) → IsErrAnd r (λ e. e ≡ fault) → IsOfBytes P fault → IfErr r (IsImage Q)
+pub passed_on : {T : Type 0} (r : Result T LedgerNo) (fault : LedgerNo) (P Q : ImageFault → Type 0) → ((f : ImageFault) → P f → Q f) → IsErrAnd r (λ e. e ≡ fault) → IsOfBytes P fault → IfErr r (IsOfLedgerImage Q)
 passed_on (Ok x) fault P Q also same is = tt
-passed_on (Err e) fault P Q also same is = subst (IsImage Q) (sym same) (image_of_bytes P Q also fault is)
+passed_on (Err e) fault P Q also same is = subst (IsOfLedgerImage Q) (sym same) (image_of_bytes P Q also fault is)
 
 pub no_disk : {T : Type 0} (r : Result T LedgerNo) (fault : LedgerNo) (P : ImageFault → Type 0) → IsErrAnd r (λ e. e ≡ fault) → IsOfBytes P fault → IsErrOf r Disk → ⊥
 no_disk (Ok x) fault P same is of = absurd cc

@@ -5,7 +5,7 @@ use Rattle.qc_disk.specs.Disk.{IsImage}
 use Rattle.qc_disk.specs.declared.disk.Disk.{Ghosts}
 use Rattle.qc_event.specs.History.{Name}
 use Rattle.qc_journal.specs.Image.{HasAt, HasRecords}
-use Rattle.qc_journal.specs.Journal.{AppendLeaves, IsDown, IsUp, Keeps, Stands, TakesInHand, disk_of, in_hand, place_of, with_hand}
+use Rattle.qc_journal.specs.Journal.{AppendLeaves, IsDown, IsUp, Keeps, ImageStands, TakesInHand, disk_of, in_hand, place_of, with_hand}
 use Rattle.qc_journal.specs.State.{IsUpState}
 use Rattle.qc_journal.specs.declared.journal.State.{State}
 use Rattle.qc_journal.specs.declared.journal.State.TheVariants.{Up, Down}
@@ -40,10 +40,10 @@ up_by (Up missing) never = tt
 up_by (Down held) never = absurd (never (λ up. up))
 
 -- an image of a journal with this body in hand
-pub stands_more : (place : ℕ) (bodies : List (List ℕ)) (hand : Option (List ℕ)) (body image : List ℕ) → hand ≡ Some body → Stands place bodies hand image → HasOrMore bodies body image
-stands_more place bodies hand body image is stands = by (subst (λ h. Stands place bodies h image) is stands)
+pub stands_more : (place : ℕ) (bodies : List (List ℕ)) (hand : Option (List ℕ)) (body image : List ℕ) → hand ≡ Some body → ImageStands place bodies hand image → HasOrMore bodies body image
+stands_more place bodies hand body image is stands = by (subst (λ h. ImageStands place bodies h image) is stands)
   where
-    by : Stands place bodies (Some body) image → HasOrMore bodies body image
+    by : ImageStands place bodies (Some body) image → HasOrMore bodies body image
     by (inl ends) = inl (inr (place, ends))
     by (inr ends) = inr (inr (_, ends))
 
@@ -52,7 +52,7 @@ stands_more place bodies hand body image is stands = by (subst (λ h. Stands pla
 told_image : (content : Option (List ℕ)) (images : List ℕ → Type 0) (bytes : List ℕ) → content ≡ Some bytes → IsImage content images → images bytes
 told_image content images bytes told is = subst (λ (o : Option (List ℕ)). IsImage o images) told is
 
-stands_has : (place : ℕ) (bodies : List (List ℕ)) (hand : Option (List ℕ)) (c : List ℕ) → Stands place bodies hand c → HasRecords bodies c ⊎ HasRecords (with_hand bodies hand) c
+stands_has : (place : ℕ) (bodies : List (List ℕ)) (hand : Option (List ℕ)) (c : List ℕ) → ImageStands place bodies hand c → HasRecords bodies c ⊎ HasRecords (with_hand bodies hand) c
 stands_has place bodies None c ends = inl (inr (place, ends))
 stands_has place bodies (Some body) c (inl ends) = inl (inr (place, ends))
 stands_has place bodies (Some body) c (inr ends) = inr (inr (_, ends))

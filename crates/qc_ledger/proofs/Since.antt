@@ -4,7 +4,7 @@ use Rattle.std.specs.Prelude.{◌↔◌, Option, None, Some}
 use Rattle.std.specs.Option.{option_map}
 use Rattle.std.proofs.lemmas.Bool.{cases_lt}
 use Rattle.std.proofs.lemmas.List.{map-append}
-use Rattle.qc_disk.specs.Disk.{View, LeavesOnly, Grows, FallsAway}
+use Rattle.qc_disk.specs.Disk.{DiskView, LeavesOnly, Grows, FallsAway}
 use Rattle.qc_disk.specs.declared.disk.Disk.{Ghosts}
 use Rattle.qc_event.specs.History.{Name, Past}
 use Rattle.qc_event.specs.Seats.{ledger_seat}
@@ -27,14 +27,14 @@ use Rattle.qc_desk.proofs.Seers.{older_trans}
 
 module _ (since : ℕ) (before : List (List ℕ)) where
   -- what may be, may be later
-  pub grown_more : (May May' : List (List ℕ) → Type 0) (disk : View) → ((more : List (List ℕ)) → May more → May' more) → GrownSince since before May disk → GrownSince since before May' disk
+  pub grown_more : (May May' : List (List ℕ) → Type 0) (disk : DiskView) → ((more : List (List ℕ)) → May more → May' more) → GrownSince since before May disk → GrownSince since before May' disk
   grown_more May May' disk on g = record {
     later = g.later;
     each = λ t from last c left. let h = g.each t from last c left in (h.0, on h.0 h.1, h.2);
     within = g.within;
   }
 
-  module _ {D : Type 0} (view : D → View) where
+  module _ {D : Type 0} (view : D → DiskView) where
     -- at the moment itself
     pub grown_first : (disk : D) (May : List (List ℕ) → Type 0) → since ≡ (view disk).moment → ((c : List ℕ) → (view disk).left_at (view disk).moment c → HasBehind before May c) → GrownSince since before May (view disk)
     grown_first disk May is here = record {

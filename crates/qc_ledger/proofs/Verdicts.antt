@@ -14,7 +14,7 @@ use Rattle.qc_codec.proofs.Order.{in_order, same_index}
 use Rattle.qc_journal.specs.Image.{HasRecords, IsBroken}
 use Rattle.qc_journal.proofs.Readings.{broken-same, records-same, records_not_broken}
 use Rattle.qc_journal.specs.Journal.{IsTooLong}
-use Rattle.qc_ledger.specs.Image.{AreMadeFor, AreMountable, IsFault, IsFirstFault, IsFull}
+use Rattle.qc_ledger.specs.Image.{AreMadeFor, AreMountableAsLedger, IsLedgerFault, IsFirstFault, IsFull}
 
 -- HOW THE LEDGER WAS MADE
 
@@ -55,7 +55,7 @@ module _ (table : Table) (limit : ℕ) (bodies : List (List ℕ)) where
     | inr later ↦ other (same_table bodies table kept some (made later) is)
   ]
 
-  pub one_fault : (f other : ImageFault) → IsFault table limit bodies f → IsFault table limit bodies other → other ≡ f
+  pub one_fault : (f other : ImageFault) → IsLedgerFault table limit bodies f → IsLedgerFault table limit bodies other → other ≡ f
   one_fault (Broken p) other one two = absurd one
   one_fault (Grammar i) (Broken p) one two = absurd two
   one_fault (Grammar i) (Grammar j) one two = ap Grammar (same_index MayStand bodies i j one.0 two.0)
@@ -78,7 +78,7 @@ module _ (table : Table) (limit : ℕ) (bodies : List (List ℕ)) where
   one_fault (Full p) (Epoch e) one two = absurd (omega (arith, two.1, two.2, one.1))
   one_fault (Full p) (Full q) one two = ap Full (same_place limit bodies _ p q one.2 two.2)
 
-  pub fault_or_none : (f : ImageFault) → IsFault table limit bodies f → AreMountable table limit bodies → ⊥
+  pub fault_or_none : (f : ImageFault) → IsLedgerFault table limit bodies f → AreMountableAsLedger table limit bodies → ⊥
   fault_or_none (Broken p) one fine = one
   fault_or_none (Grammar i) one fine = in_order MayStand bodies i one.0 fine.ledgers.order
   fault_or_none (OtherTable kept asked) one fine = one.1 (same_table bodies table kept one.2 fine.ledgers.made one.3)
@@ -114,8 +114,8 @@ module _ (Has : List (List ℕ) → ImageFault → Type 0) (image : List ℕ) wh
       by (inr a) = none (subst (λ (l : List (List ℕ)). Has l f) (records-same image bodies a.0 has a.1) a.2)
 
 module _ (table : Table) (limit : ℕ) (image : List ℕ) where
-  pub one_first : (f other : ImageFault) → IsFirstFault (IsFault table limit) f image → IsFirstFault (IsFault table limit) other image → other ≡ f
-  one_first f other one two = first_is_one (IsFault table limit) image (one_fault table limit) f other one two
+  pub one_first : (f other : ImageFault) → IsFirstFault (IsLedgerFault table limit) f image → IsFirstFault (IsLedgerFault table limit) other image → other ≡ f
+  one_first f other one two = first_is_one (IsLedgerFault table limit) image (one_fault table limit) f other one two
 
-  pub first_or_none : (f : ImageFault) (bodies : List (List ℕ)) → IsFirstFault (IsFault table limit) f image → HasRecords bodies image → AreMountable table limit bodies → ⊥
-  first_or_none f bodies is has fine = first_or_else (IsFault table limit) image bodies f has (λ fault. fault_or_none table limit bodies f fault fine) is
+  pub first_or_none : (f : ImageFault) (bodies : List (List ℕ)) → IsFirstFault (IsLedgerFault table limit) f image → HasRecords bodies image → AreMountableAsLedger table limit bodies → ⊥
+  first_or_none f bodies is has fine = first_or_else (IsLedgerFault table limit) image bodies f has (λ fault. fault_or_none table limit bodies f fault fine) is

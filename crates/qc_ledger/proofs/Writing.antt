@@ -6,10 +6,10 @@ use Rattle.std.proofs.Math.Dec.{eqb-suc-zero}
 use Rattle.std.specs.Prelude.{◌==◌, true, Option, None, Result, Ok, Err, OnOk, Vec}
 use Rattle.std.specs.Result.{IsErrAnd}
 use Rattle.std.specs.declared.alloc.Global.{Global}
-use Rattle.qc_disk.specs.Disk.{View, LeavesOnly}
+use Rattle.qc_disk.specs.Disk.{DiskView, LeavesOnly}
 use Rattle.qc_disk.specs.declared.disk.Disk.{Ghosts}
 use Rattle.qc_journal.specs.Image.{row, EndsAt, HasRecords, bodies_of}
-use Rattle.qc_journal.specs.Journal.{IsUp, Keeps, Stands, disk_of, in_hand, place_of}
+use Rattle.qc_journal.specs.Journal.{IsUp, Keeps, ImageStands, disk_of, in_hand, place_of}
 use Rattle.qc_journal.specs.State.{IsUpState, hand_of}
 use Rattle.qc_journal.specs.declared.journal.Journal.{Journal}
 use Rattle.qc_journal.specs.declared.journal.State.{State}
@@ -80,8 +80,8 @@ pub up_hand : (state : State) → IsUpState state → hand_of state ≡ None
 up_hand (Up missing) up = refl
 up_hand (Down held) up = absurd up
 
-ends_here : (place : ℕ) (bodies : List (List ℕ)) (hand : Option (List ℕ)) (image : List ℕ) → hand ≡ None → Stands place bodies hand image → EndsAt place bodies image
-ends_here place bodies hand image none stands = subst (λ (h : Option (List ℕ)). Stands place bodies h image) none stands
+ends_here : (place : ℕ) (bodies : List (List ℕ)) (hand : Option (List ℕ)) (image : List ℕ) → hand ≡ None → ImageStands place bodies hand image → EndsAt place bodies image
+ends_here place bodies hand image none stands = subst (λ (h : Option (List ℕ)). ImageStands place bodies h image) none stands
 
 module _ {D : Type 0} {g : Ghosts D} where
   -- each image of a journal that is up has the records that it keeps
@@ -91,7 +91,7 @@ module _ {D : Type 0} {g : Ghosts D} where
   pub kept_has : (journal : Journal D g) (bodies : List (List ℕ)) (image : List ℕ) → IsUp journal → Keeps journal bodies → (g.view (disk_of journal)).may_leave image → HasRecords bodies image
   kept_has journal bodies image up k left = inr (place_of journal, kept_ends journal bodies image up k left)
 
-pub one_written : {D : Type 0} (view : D → View) (old new : D) (bodies : List (List ℕ)) (spelled next : List ℕ) → spelled ≡ next
+pub one_written : {D : Type 0} (view : D → DiskView) (old new : D) (bodies : List (List ℕ)) (spelled next : List ℕ) → spelled ≡ next
     → LeavesOnly view old new (λ image. HasRecords bodies image ⊎ HasRecords (bodies ++ spelled ∷ []) image) → LeavesOnly view old new (HasSome bodies (next ∷ []))
 one_written view old new bodies spelled next is run = weakened view old new _ (HasSome bodies (next ∷ [])) run
     (λ image has. some_of_one bodies next image (subst (λ (b : List ℕ). HasRecords bodies image ⊎ HasRecords (bodies ++ b ∷ []) image) is has))

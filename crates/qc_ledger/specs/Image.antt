@@ -48,12 +48,12 @@ pub record AreLedgers (table : Table) (bodies : List (List ℕ)) : Type 0 where
   pub order : AreInOrder bodies
 
 -- the first fault that bodies have
-abbrev pub IsFault : Table → ℕ → List (List ℕ) → ImageFault → Type 0
-IsFault table limit bodies (Broken place) = ⊥
-IsFault table limit bodies (Grammar index) = IsOutOfOrder index bodies × (index ≢ 0 → AreMadeFor table bodies)
-IsFault table limit bodies (OtherTable kept asked) = (asked ≡ table) × (kept ≢ table) × (bodies ≢ []) × AreMadeFor kept bodies
-IsFault table limit bodies (Epoch epoch) = AreLedgers table bodies × ((past_in bodies).epoch ≡ epoch) × (epoch ≡ LAST_EPOCH)
-IsFault table limit bodies (Full place) = AreLedgers table bodies × ((past_in bodies).epoch < LAST_EPOCH) × IsFull limit bodies (to_write table bodies) place
+abbrev pub IsLedgerFault : Table → ℕ → List (List ℕ) → ImageFault → Type 0
+IsLedgerFault table limit bodies (Broken place) = ⊥
+IsLedgerFault table limit bodies (Grammar index) = IsOutOfOrder index bodies × (index ≢ 0 → AreMadeFor table bodies)
+IsLedgerFault table limit bodies (OtherTable kept asked) = (asked ≡ table) × (kept ≢ table) × (bodies ≢ []) × AreMadeFor kept bodies
+IsLedgerFault table limit bodies (Epoch epoch) = AreLedgers table bodies × ((past_in bodies).epoch ≡ epoch) × (epoch ≡ LAST_EPOCH)
+IsLedgerFault table limit bodies (Full place) = AreLedgers table bodies × ((past_in bodies).epoch < LAST_EPOCH) × IsFull limit bodies (to_write table bodies) place
 
 -- the first fault of an image: it is broken, or its bodies have a fault
 abbrev pub IsFirstFault : (List (List ℕ) → ImageFault → Type 0) → ImageFault → List ℕ → Type 0
@@ -61,7 +61,7 @@ IsFirstFault Has (Broken place) image = IsBroken place image
 IsFirstFault Has fault image = (bodies : List (List ℕ)) × HasRecords bodies image × Has bodies fault
 
 -- Bodies have no fault, and what a mounting writes fits behind them.
-pub record AreMountable (table : Table) (limit : ℕ) (bodies : List (List ℕ)) : Type 0 where
+pub record AreMountableAsLedger (table : Table) (limit : ℕ) (bodies : List (List ℕ)) : Type 0 where
   pub ledgers : AreLedgers table bodies
   pub epoch : (past_in bodies).epoch < LAST_EPOCH
   pub room : (place : ℕ) → IsFull limit bodies (to_write table bodies) place → ⊥

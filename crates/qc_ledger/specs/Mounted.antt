@@ -6,7 +6,7 @@ use Rattle.qc_codec.specs.Ledger.{past_in}
 use Rattle.qc_codec.specs.declared.past.Past.{Past}
 use Rattle.qc_journal.specs.Image.{HasRecords, bodies_of}
 use Rattle.qc_journal.specs.declared.journal.Journal.{Journal}
-use Rattle.qc_ledger.specs.Image.{AreLedgers, AreMountable, to_write}
+use Rattle.qc_ledger.specs.Image.{AreLedgers, AreMountableAsLedger, to_write}
 use Rattle.qc_ledger.specs.declared.book.Book.{Book}
 use Rattle.qc_ledger.specs.declared.fault.LedgerNo.{LedgerNo}
 
@@ -27,10 +27,10 @@ pub record HasSome (bodies more : List (List ℕ)) (image : List ℕ) : Type 0 w
 
 -- Bodies were found, which are a ledger's and tell this past. A disk that tells its bytes has them, without a fault.
 -- What a mounting writes stands behind them.
-pub record Mounts (table : Table) (limit : ℕ) (told : Option (List ℕ)) (records : List (List ℕ)) (past : Past) (epoch : ℕ) : Type 0 where
+pub record MountsLedger (table : Table) (limit : ℕ) (told : Option (List ℕ)) (records : List (List ℕ)) (past : Past) (epoch : ℕ) : Type 0 where
   pub found : List (List ℕ)
   pub ledgers : AreLedgers table found
-  pub fine : IfSome told (λ bytes. HasRecords found bytes × AreMountable table limit found)
+  pub fine : IfSome told (λ bytes. HasRecords found bytes × AreMountableAsLedger table limit found)
   pub past_is : past ≡ past_in found
   pub next : epoch ≡ past.epoch + 1
   pub all : records ≡ found ++ to_write table found

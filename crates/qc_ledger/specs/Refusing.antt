@@ -6,7 +6,7 @@ use Rattle.qc_event.specs.declared.short.Short.TheVariants.{Memory, Room}
 use Rattle.qc_event.specs.declared.table.Table.{Table}
 use Rattle.qc_journal.specs.declared.fault.Fault.{Fault}
 use Rattle.qc_journal.specs.declared.fault.Fault.TheVariants as fault
-use Rattle.qc_ledger.specs.Image.{IsFault, IsFirstFault}
+use Rattle.qc_ledger.specs.Image.{IsLedgerFault, IsFirstFault}
 use Rattle.qc_ledger.specs.declared.fault.LedgerNo.{LedgerNo}
 use Rattle.qc_ledger.specs.declared.fault.LedgerNo.TheVariants.{Disk, Image, Full, Short}
 
@@ -20,11 +20,11 @@ abbrev pub image_no : ImageFault → LedgerNo
 image_no f = Image (record { disk = 0; fault = f })
 
 -- what a fault of the journal is to a mounting
-abbrev pub mount_no : Fault → LedgerNo
-mount_no fault.Disk = Disk
-mount_no (fault.Broken place) = image_no (image.Broken place)
-mount_no (fault.Full place) = image_no (image.Full place)
-mount_no fault.Memory = Short Memory
+abbrev pub ledger_mount_no : Fault → LedgerNo
+ledger_mount_no fault.Disk = Disk
+ledger_mount_no (fault.Broken place) = image_no (image.Broken place)
+ledger_mount_no (fault.Full place) = image_no (image.Full place)
+ledger_mount_no fault.Memory = Short Memory
 
 -- what a fault of the journal is to a logging
 abbrev pub log_no : Fault → LedgerNo
@@ -34,12 +34,12 @@ log_no (fault.Full place) = Full place
 log_no fault.Memory = Short Memory
 
 -- a fault of the ledger's image, of which this holds; or of the disk or the memory
-abbrev pub IsImage : (ImageFault → Type 0) → LedgerNo → Type 0
-IsImage P Disk = Unit {0}
-IsImage P (Image bad) = (bad.disk ≡ 0) × P bad.fault
-IsImage P (Full place) = ⊥
-IsImage P (Short Memory) = Unit {0}
-IsImage P (Short Room) = ⊥
+abbrev pub IsOfLedgerImage : (ImageFault → Type 0) → LedgerNo → Type 0
+IsOfLedgerImage P Disk = Unit {0}
+IsOfLedgerImage P (Image bad) = (bad.disk ≡ 0) × P bad.fault
+IsOfLedgerImage P (Full place) = ⊥
+IsOfLedgerImage P (Short Memory) = Unit {0}
+IsOfLedgerImage P (Short Room) = ⊥
 
 -- a fault of the ledger's image, of which this holds; or of the memory
 abbrev pub IsOfBytes : (ImageFault → Type 0) → LedgerNo → Type 0
@@ -51,7 +51,7 @@ IsOfBytes P (Short Room) = ⊥
 
 -- a mounting may be refused: for the first fault of the image that is told, for the disk, or for memory
 abbrev pub IsLedgerRefusal : Table → ℕ → Option (List ℕ) → LedgerNo → Type 0
-IsLedgerRefusal table limit told fault = IsImage (λ f. IfSome told (IsFirstFault (IsFault table limit) f)) fault
+IsLedgerRefusal table limit told fault = IsOfLedgerImage (λ f. IfSome told (IsFirstFault (IsLedgerFault table limit) f)) fault
 
 -- a fault of the disk, of want of room or of the memory
 abbrev pub IsOfWriting : Fault → Type 0

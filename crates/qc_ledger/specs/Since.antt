@@ -1,6 +1,6 @@
 -- What a crash might have left of a disk at each moment since one, and that no record is lost again.
 use Rattle.std.specs.Prelude.{◌≡◌, ◌≤◌, ◌⊎◌, ℕ, List, ◌++◌, length, map, IfSome, IsTrue, Option, option_to_list}
-use Rattle.qc_disk.specs.Disk.{View}
+use Rattle.qc_disk.specs.Disk.{DiskView}
 use Rattle.qc_disk.specs.declared.disk.Disk.{Ghosts}
 use Rattle.qc_event.specs.History.{Name, Past, IsOpen, is_ready}
 use Rattle.qc_event.specs.Seats.{ledger_seat}
@@ -17,11 +17,11 @@ abbrev pub HasBehind : List (List ℕ) → (List (List ℕ) → Type 0) → List
 HasBehind before May image = (more : List (List ℕ)) × May more × HasRecords (before ++ more) image
 
 -- all that a crash might have left at a moment has P
-abbrev pub AllLeft : View → ℕ → (List ℕ → Type 0) → Type 0
+abbrev pub AllLeft : DiskView → ℕ → (List ℕ → Type 0) → Type 0
 AllLeft disk t P = (c : List ℕ) → disk.left_at t c → P c
 
 -- At each moment from one on, up to now, each image has the records from before it, and behind them some of which this is so. Of two such moments each image of the later has every record that all images of the earlier have.
-pub record GrownSince (since : ℕ) (before : List (List ℕ)) (May : List (List ℕ) → Type 0) (disk : View) : Type 0 where
+pub record GrownSince (since : ℕ) (before : List (List ℕ)) (May : List (List ℕ) → Type 0) (disk : DiskView) : Type 0 where
   pub later : since ≤ disk.moment
   pub each : (t : ℕ) → since ≤ t → t ≤ disk.moment → AllLeft disk t (HasBehind before May)
   pub within : (t u : ℕ) → since ≤ t → t ≤ u → u ≤ disk.moment → (index : ℕ) (had : List ℕ) → AllLeft disk t (HasAt index had) → AllLeft disk u (HasAt index had)

@@ -1,6 +1,6 @@
 //! Why the ledger did not do what it was asked.
 ghost use Rattle.std.specs.Prelude.{◌≡◌};
-ghost use Rattle.qc_ledger.specs.Refusing.{mount_no, image_no, log_no};
+ghost use Rattle.qc_ledger.specs.Refusing.{ledger_mount_no, image_no, log_no};
 ghost use Rattle.qc_event.specs.declared.short.Short.TheVariants.{Memory};
 ghost use Rattle.qc_ledger.specs.declared.fault.LedgerNo.TheVariants as no;
 
@@ -70,8 +70,8 @@ pub(crate) fn image_no(fault: ImageFault) -> LedgerNo
 }
 
 /// What a fault of the journal is to a mounting.
-pub(crate) fn mount_no(fault: Fault) -> LedgerNo
-    ensures { result ≡ mount_no fault }
+pub(crate) fn ledger_mount_no(fault: Fault) -> LedgerNo
+    ensures { result ≡ ledger_mount_no fault }
 {
     match fault {
         Fault::Disk => LedgerNo::Disk,

@@ -3,19 +3,20 @@ ghost use Rattle.std.specs.Prelude.{ℕ, ◌≡◌, List};
 ghost use Rattle.qc_event.specs.declared.table.Table.{Table};
 ghost use Rattle.qc_codec.specs.declared.image.ImageFault.{ImageFault};
 ghost use Rattle.qc_journal.specs.Image.{HasRecords};
-ghost use Rattle.qc_ledger.specs.Image.{IsFault, IsFirstFault, AreMountable};
+ghost use Rattle.qc_ledger.specs.Image.{IsLedgerFault, IsFirstFault, AreMountableAsLedger};
 
 /// The bodies of a ledger's records have at most one first fault, and none where they can be mounted. So has an image.
 /// What `mount` answers is then the one fault that there is.
 pub fn one_verdict()
     ensures one { (table : Table) (limit : ℕ) (bodies : List (List ℕ)) (fault other : ImageFault)
-        → IsFault table limit bodies fault → IsFault table limit bodies other → other ≡ fault }
+        → IsLedgerFault table limit bodies fault → IsLedgerFault table limit bodies other → other
+        ≡ fault }
     ensures not_both { (table : Table) (limit : ℕ) (bodies : List (List ℕ)) (fault : ImageFault)
-        → IsFault table limit bodies fault → AreMountable table limit bodies → ⊥ }
+        → IsLedgerFault table limit bodies fault → AreMountableAsLedger table limit bodies → ⊥ }
     ensures one_image { (table : Table) (limit : ℕ) (image : List ℕ) (fault other : ImageFault)
-        → IsFirstFault (IsFault table limit) fault image → IsFirstFault (IsFault table limit) other image
-        → other ≡ fault }
+        → IsFirstFault (IsLedgerFault table limit) fault image → IsFirstFault
+        (IsLedgerFault table limit) other image → other ≡ fault }
     ensures not_both_image { (table : Table) (limit : ℕ) (image : List ℕ) (fault : ImageFault)
-        → (bodies : List (List ℕ)) → IsFirstFault (IsFault table limit) fault image
-        → HasRecords bodies image → AreMountable table limit bodies → ⊥ }
+        → (bodies : List (List ℕ)) → IsFirstFault (IsLedgerFault table limit) fault image
+        → HasRecords bodies image → AreMountableAsLedger table limit bodies → ⊥ }
 {}

@@ -6,9 +6,9 @@ ghost use Rattle.qc_codec.specs.Ledger.{past_in};
 ghost use Rattle.qc_journal.specs.Image.{HasAt, bodies_of};
 ghost use Rattle.qc_journal.specs.Journal.{disk_of, limit_of, IsUp, Keeps};
 ghost use Rattle.qc_journal.specs.declared.fault.Fault.TheVariants.{Full};
-ghost use Rattle.qc_ledger.specs.Image.{made_body, epoch_body, made_where_none, to_write, AreMountable, IsFault, AreLedgers, LAST_EPOCH};
-ghost use Rattle.qc_ledger.specs.Refusing.{IsLedgerRefusal, IsImage, IsOfBytes, IsOfWriting};
-ghost use Rattle.qc_ledger.specs.Mounted.{Mounts, MountLeaves, journal_of, records_of, disk_after, HasSome};
+ghost use Rattle.qc_ledger.specs.Image.{made_body, epoch_body, made_where_none, to_write, AreMountableAsLedger, IsLedgerFault, AreLedgers, LAST_EPOCH};
+ghost use Rattle.qc_ledger.specs.Refusing.{IsLedgerRefusal, IsOfLedgerImage, IsOfBytes, IsOfWriting};
+ghost use Rattle.qc_ledger.specs.Mounted.{MountsLedger, MountLeaves, journal_of, records_of, disk_after, HasSome};
 ghost use Rattle.qc_ledger.specs.Runs.{Costs, HasMore, HaveRoomBehind, IsFullBehind, KeepsAll, Leaves, LosesNone};
 
 use crate::book::Book;
@@ -123,7 +123,7 @@ fn plan_of(alloc: Global, bodies: &[Body], table: &Table) -> Result<Plan, Ledger
     ensures made { IfOk result (λ plan. plan.made.items ≡ made_body table.now) }
     ensures epoch { IfOk result (λ plan. plan.epoch.items ≡ epoch_body (plan.past.epoch + 1)) }
     ensures fault { (limit : ℕ)
-        → IfErr result (IsOfBytes (IsFault table.now limit (bodies_of bodies.now))) }
+        → IfErr result (IsOfBytes (IsLedgerFault table.now limit (bodies_of bodies.now))) }
 {
     let made = Made {
         who: 0,
@@ -153,14 +153,14 @@ fn begin<D: Disk>(
     ensures epoch { IfOk result (λ past. past.epoch < LAST_EPOCH) }
     ensures ledgers { OnOk result (AreLedgers table.now (bodies_of bodies.old.items)) }
     ensures fine { OnOk result (KeepsAll journal.old bodies.old
-        → AreMountable table.now (limit_of journal.old) (bodies_of bodies.old.items)) }
+        → AreMountableAsLedger table.now (limit_of journal.old) (bodies_of bodies.old.items)) }
     ensures bodies { OnOk result (HasMore bodies.old bodies.new
         (to_write table.now (bodies_of bodies.old.items))) }
     ensures limit { limit_of journal.new ≡ limit_of journal.old }
     ensures keeps { OnOk result (KeepsAll journal.old bodies.old
         → KeepsAll journal.new bodies.new) }
-    ensures refused { IfErr result (IsImage (λ fault. KeepsAll journal.old bodies.old
-        → IsFault table.now (limit_of journal.old) (bodies_of bodies.old.items) fault)) }
+    ensures refused { IfErr result (IsOfLedgerImage (λ fault. KeepsAll journal.old bodies.old
+        → IsLedgerFault table.now (limit_of journal.old) (bodies_of bodies.old.items) fault)) }
     ensures any_moment { KeepsAll journal.old bodies.old
         → Leaves journal.old journal.new (HasSome (bodies_of bodies.old.items)
         (to_write table.now (bodies_of bodies.old.items))) }
@@ -185,7 +185,7 @@ pub fn mount<D: Disk>(
     requires proper { (body.table 1).fits table.now }
 
     // The past is what the records tell that were found, and the epoch, which stands behind them, is the next.
-    ensures mounts { IfOk result (λ mounted. Mounts table.now limit (D.view disk).content
+    ensures mounts { IfOk result (λ mounted. MountsLedger table.now limit (D.view disk).content
         (records_of mounted.0) mounted.1 mounted.2) }
     ensures limit { IfOk result (λ mounted. limit_of (journal_of mounted.0) ≡ limit) }
 

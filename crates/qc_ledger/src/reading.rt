@@ -5,7 +5,7 @@ ghost use Rattle.qc_codec.specs.Bodies as body;
 ghost use Rattle.qc_codec.specs.Form.{all_of};
 ghost use Rattle.qc_codec.specs.Ledger.{past_in, MayFollow, MayStand, AreInOrder};
 ghost use Rattle.qc_journal.specs.Image.{bodies_of};
-ghost use Rattle.qc_ledger.specs.Image.{made_body, LAST_EPOCH, AreLedgers, IsFault};
+ghost use Rattle.qc_ledger.specs.Image.{made_body, LAST_EPOCH, AreLedgers, IsLedgerFault};
 ghost use Rattle.qc_ledger.specs.Reading.{IsFirstBad, IsLaterBad};
 ghost use Rattle.qc_ledger.specs.Refusing.{IsOfBytes};
 ghost use Rattle.qc_ledger.specs.Seen.{told_by, HasNumbers, with_body};
@@ -88,7 +88,7 @@ pub(crate) fn past_of(
     ensures ledgers { OnOk result (AreLedgers made.table (bodies_of bodies.now)) }
     ensures epoch { IfOk result (λ past. past.epoch < LAST_EPOCH) }
     ensures fault { (limit : ℕ)
-        → IfErr result (IsOfBytes (IsFault made.table limit (bodies_of bodies.now))) }
+        → IfErr result (IsOfBytes (IsLedgerFault made.table limit (bodies_of bodies.now))) }
 {
     if bodies.is_empty() {
         return Ok(Seen::new(alloc).into_past());

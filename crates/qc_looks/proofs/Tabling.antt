@@ -17,7 +17,7 @@ use Rattle.qc_event.proofs.Asked.{asked_fits}
 use Rattle.qc_event.proofs.AsksFit.{AskFits}
 use Rattle.qc_event.proofs.Granted.{at_copy, elsewhere, grants_nothing}
 use Rattle.qc_event.proofs.Options.{some_there}
-use Rattle.qc_moss.specs.Follows.{Follows}
+use Rattle.qc_moss.specs.Follows.{TableFollows}
 use Rattle.qc_moss.specs.Locks.{Table, granted_to, test_by}
 use Rattle.qc_moss.proofs.Tables.{grows, granted}
 use Rattle.qc_history.proofs.Spots.{one_of}
@@ -84,7 +84,7 @@ stays : (base : List (List Tuple)) (e : Entry) (past : Past) (copy : ℕ) (table
 stays base e past copy table none was = record {
   start = was.start;
   follows =
-      subst (λ given. Follows (e ∷ past) given table) (sym (append-nil (grants past copy)) ∙ ap (λ o. grants past copy ++ option_to_list o) (sym none))
+      subst (λ given. TableFollows (e ∷ past) given table) (sym (append-nil (grants past copy)) ∙ ap (λ o. grants past copy ++ option_to_list o) (sym none))
       (grows past e (grants past copy) table was.follows);
 }
 
@@ -101,14 +101,14 @@ one_granted base e past tables copy g table is are at within =
     (let was = are.each copy table at in record {
       start = was.start;
       follows =
-          subst (λ given. Follows (e ∷ past) given (granted_to table g.access g.rec g.op)) (ap (λ o. grants past copy ++ option_to_list o) (sym (at_copy copy copy g e.event is refl)))
+          subst (λ given. TableFollows (e ∷ past) given (granted_to table g.access g.rec g.op)) (ap (λ o. grants past copy ++ option_to_list o) (sym (at_copy copy copy g e.event is refl)))
           (granted (e ∷ past) (grants past copy) table g within (grows past e (grants past copy) table was.follows));
     })
     (λ c t other was. stays base e past c t (elsewhere copy c g e.event is (λ h. other (sym h))) was)
 
 -- a table that was settled, or otherwise follows on
 pub settled : (base : List (List Tuple)) (past : Past) (tables : List Table) (copy : ℕ) (old table : Table) → AreTablesOf base past tables → slice_get tables copy ≡ Some old → table.start ≡ old.start
-    → (Follows past (grants past copy) old → Follows past (grants past copy) table) → AreTablesOf base past (slice_set tables copy table)
+    → (TableFollows past (grants past copy) old → TableFollows past (grants past copy) table) → AreTablesOf base past (slice_set tables copy table)
 settled base past tables copy old table are at start follows =
     replaced base past past tables copy table are
     (let was = are.each copy old at in record { start = start ∙ was.start; follows = follows was.follows }) (λ c t other was. was)

@@ -24,7 +24,7 @@ abbrev pub AreRequests : Requests → Past → Type 0
 AreRequests kept past = AreRequestsOf past kept
 
 -- There is room for an entry that may come next.
-pub record HasRoom (e : Entry) (past : Past) (kept : Requests) : Type 0 where
+pub record RequestsHaveRoom (e : Entry) (past : Past) (kept : Requests) : Type 0 where
   pub asked : Reaches past (asked_name e.event) kept.asked.after.items
   pub gone : Reaches past (gone_name e.event) kept.gone.after.items
   pub granted : Reaches past (granted_name e.event) kept.granted.after.items

@@ -7,7 +7,7 @@ use Rattle.qc_event.specs.declared.event.Grant.{Grant}
 use Rattle.qc_event.specs.Base.{Setting, IsProper}
 use Rattle.qc_event.specs.History.{Past, Name, asked, grants}
 use Rattle.qc_event.specs.Legal.{Legal}
-use Rattle.qc_moss.specs.Follows.{Follows}
+use Rattle.qc_moss.specs.Follows.{TableFollows}
 use Rattle.qc_moss.specs.Locks.{Table, unheld}
 use Rattle.qc_moss.specs.declared.locks.Test.{Test}
 use Rattle.qc_moss.specs.declared.locks.Test.TheVariants.{Free, Held}
@@ -21,7 +21,7 @@ first_of (Held first) = Some first
 -- A table is that of a copy: it starts with the copy's tuples, and follows the history with the copy's grants.
 pub record IsTableOf (base : List (List Tuple)) (past : Past) (copy : ℕ) (table : Table) : Type 0 where
   pub start : table.start ≡ slice_index_or base copy []
-  pub follows : Follows past (grants past copy) table
+  pub follows : TableFollows past (grants past copy) table
 
 -- There is a table for each copy.
 pub record AreTablesOf (base : List (List Tuple)) (past : Past) (tables : List Table) : Type 0 where

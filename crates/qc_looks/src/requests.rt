@@ -7,7 +7,7 @@ ghost use Rattle.qc_event.specs.Legal.{Legal};
 ghost use Rattle.qc_event.specs.Requests as requests_words;
 ghost use Rattle.qc_history.specs.Index.{IsOf};
 ghost use Rattle.qc_history.specs.Standing.{OfEach};
-ghost use Rattle.qc_looks.specs.Requests.{AreRequests, HasRoom, OfEntries};
+ghost use Rattle.qc_looks.specs.Requests.{AreRequests, RequestsHaveRoom, OfEntries};
 
 use crate::subjects::{asked_name, gone_name, granted_name, unable_name};
 use qc_event::{Entry, Name, Why};
@@ -47,7 +47,7 @@ impl Requests {
         ensures same { OnOk result
             ((past : Past) → AreRequests self.old past → AreRequests self.new past) }
         ensures room { OnOk result
-            (OfEach (IsOf names.now) (λ past. HasRoom entry.now past self.new)) }
+            (OfEach (IsOf names.now) (λ past. RequestsHaveRoom entry.now past self.new)) }
     {
         self.asked.make_room(asked_name(entry), names)?;
         self.gone.make_room(gone_name(entry), names)?;
@@ -62,7 +62,7 @@ impl Requests {
     pub fn push(&mut self, entry: &Entry, names: &Index, at: u32)
         requires at { at < limit }
         ensures { (setting : Setting) → (past : Past) → AreRequests self.old past →
-            HasRoom entry.now past self.old → IsOf names.now (entry.now ∷ past) →
+            RequestsHaveRoom entry.now past self.old → IsOf names.now (entry.now ∷ past) →
             Legal setting (entry.now ∷ past) → at ≡ length past →
             AreRequests self.new (entry.now ∷ past) }
     {

@@ -8,7 +8,7 @@ ghost use Rattle.qc_event.specs.Clear.{is_get};
 ghost use Rattle.qc_event.specs.Legal.{Legal};
 ghost use Rattle.qc_event.specs.Seen as seen_words;
 ghost use Rattle.qc_moss.specs.Consulting.{blocker};
-ghost use Rattle.qc_moss.specs.Follows.{Follows};
+ghost use Rattle.qc_moss.specs.Follows.{TableFollows};
 ghost use Rattle.qc_moss.specs.Locks.{start_of};
 ghost use Rattle.qc_looks.specs.Tables as words;
 ghost use Rattle.qc_looks.specs.Tables.{AreTables, CanAsk, CanGrow};
@@ -21,11 +21,11 @@ use std::alloc::{AllocError, Global};
 
 // What tells locks of a legal history.
 #[derive(Clone, Copy)]
-struct Told<'a> {
+struct IndexTold<'a> {
     history: &'a History,
 }
 
-impl<'a> Source for Told<'a> {
+impl<'a> Source for IndexTold<'a> {
     ghost use Rattle.std.specs.Prelude.{◌≡◌};
     ghost use Rattle.qc_event.specs.Base.{Setting};
     ghost use Rattle.qc_event.specs.Legal.{Legal};
@@ -62,11 +62,11 @@ fn blocker(locks: &mut Locks, history: &History, ask: &Ask) -> Option<Name>
     requires { ask.now.rec < length locks.old.start }
     ensures start { locks.new.start ≡ locks.old.start }
     ensures follows { (setting : Setting) → (given : List Grant) → Legal setting history.now →
-        Follows history.now given locks.old → Follows history.now given locks.new }
+        TableFollows history.now given locks.old → TableFollows history.now given locks.new }
     ensures blocker { (setting : Setting) → (given : List Grant) → Legal setting history.now →
-        Follows history.now given locks.old → result ≡ blocker history.now given ask.now }
+        TableFollows history.now given locks.old → result ≡ blocker history.now given ask.now }
 {
-    locks.settle_by(ask.rec, &Told { history });
+    locks.settle_by(ask.rec, &IndexTold { history });
     first_of(&locks.test(&ask.access, ask.rec, is_write(&ask.op)))
 }
 
@@ -75,13 +75,13 @@ fn held(locks: &mut Locks, history: &History, ask: &Ask) -> Tuple
     requires { ask.now.rec < length locks.old.start }
     ensures start { locks.new.start ≡ locks.old.start }
     ensures follows { (setting : Setting) → (given : List Grant) → Legal setting history.now →
-        Follows history.now given locks.old → Follows history.now given locks.new }
+        TableFollows history.now given locks.old → TableFollows history.now given locks.new }
     ensures held { (setting : Setting) → (given : List Grant) → Legal setting history.now →
-        Follows history.now given locks.old →
+        TableFollows history.now given locks.old →
         result ≡ seen_words.changed_by (start_of locks.old ask.now.rec)
         (filter (seen_words.is_live_at history.now ask.now.rec) given) }
 {
-    locks.settle_by(ask.rec, &Told { history });
+    locks.settle_by(ask.rec, &IndexTold { history });
     locks.seen_by(ask.rec)
 }
 

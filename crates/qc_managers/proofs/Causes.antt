@@ -20,7 +20,7 @@ use Rattle.qc_managers.specs.declared.carrier.Carried.TheVariants as carried
 use Rattle.qc_managers.specs.Told.{Told, why_in}
 use Rattle.qc_managers.specs.Answered.{told_in}
 use Rattle.qc_managers.specs.Going.{HasServed}
-use Rattle.qc_managers.specs.Undisturbed.{any_unable, StandsOn, HasCause, IsAble}
+use Rattle.qc_managers.specs.Undisturbed.{any_unable, StandsOn, TellHasCause, IsAble}
 use Rattle.qc_managers.proofs.Served.{grown_none}
 
 -- TROUBLES
@@ -61,7 +61,7 @@ stands_stays before now m Old New more rose Full h = more Full h
 stands_stays before now m Old New more rose Strange h = more Strange h
 
 -- a cause stays one
-pub cause_stays : (others : Entry → Bool) (Names : Name → Type 0) (before now : Past) (m : Name) (Old New : Type 0) → HasGrown others Names before now → (Old → New) → (t : Told) → HasCause before m Old t → HasCause now m New t
+pub cause_stays : (others : Entry → Bool) (Names : Name → Type 0) (before now : Past) (m : Name) (Old New : Type 0) → HasGrown others Names before now → (Old → New) → (t : Told) → TellHasCause before m Old t → TellHasCause now m New t
 cause_stays others Names before now m Old New grown rose t = of_why (why_in t)
   where
     more : (why : Why) → any_unable before m why ≡ true → any_unable now m why ≡ true
@@ -72,7 +72,7 @@ cause_stays others Names before now m Old New grown rose t = of_why (why_in t)
     of_why (Some why) h = stands_stays before now m Old New more rose why h
 
 -- a request that was carried has a cause where it is missing
-pub cause_of_request : (way : Carriage) (m : Name) (Trouble : Type 0) (c : Carried) → way.manager ≡ m → WasCarried way (became c) → HasReason way Trouble c → HasCause way.now m Trouble (record { copy = way.ask.copy; result = became c })
+pub cause_of_request : (way : Carriage) (m : Name) (Trouble : Type 0) (c : Carried) → way.manager ≡ m → WasCarried way (became c) → HasReason way Trouble c → TellHasCause way.now m Trouble (record { copy = way.ask.copy; result = became c })
 cause_of_request way m Trouble c its was reason = of_carried c reason
   where
     word : (why : Why) → was_unable way.now way.ask.access why ≡ true → any_unable way.now m why ≡ true
@@ -83,7 +83,7 @@ cause_of_request way m Trouble c its was reason = of_carried c reason
         ∙ list_any-append unable (asks way.before way.manager) (way.ask ∷ [])
         ∙ or_right (list_any unable (asks way.before way.manager)) (list_any unable (way.ask ∷ [])) (or_left (unable way.ask) false h)
 
-    of_carried : (c : Carried) → HasReason way Trouble c → HasCause way.now m Trouble (record { copy = way.ask.copy; result = became c })
+    of_carried : (c : Carried) → HasReason way Trouble c → TellHasCause way.now m Trouble (record { copy = way.ask.copy; result = became c })
     of_carried (carried.Reply tuple) h = tt
     of_carried (carried.Blocked holder) h = tt
     of_carried (carried.Gone Lost) h = h
@@ -93,14 +93,14 @@ cause_of_request way m Trouble c its was reason = of_carried c reason
     of_carried (carried.Gone Strange) h = word Strange h
 
 -- where nothing was told, nothing wants a cause
-pub causes_none : (a : CarrierView) (m : Name) (phase : Phase) → told_in a.seen m phase ≡ [] → All (HasCause a.seen m (Rose a.troubles a.troubles)) (told_in a.seen m phase)
-causes_none a m phase none = subst (All (HasCause a.seen m (Rose a.troubles a.troubles))) (sym none) (All-nil (HasCause a.seen m (Rose a.troubles a.troubles)))
+pub causes_none : (a : CarrierView) (m : Name) (phase : Phase) → told_in a.seen m phase ≡ [] → All (TellHasCause a.seen m (Rose a.troubles a.troubles)) (told_in a.seen m phase)
+causes_none a m phase none = subst (All (TellHasCause a.seen m (Rose a.troubles a.troubles))) (sym none) (All-nil (TellHasCause a.seen m (Rose a.troubles a.troubles)))
 
 -- with one more that was told, each has its cause
-pub causes_further : (a now then : CarrierView) (m : Name) (phase : Phase) (t : Told) → HasServed m a now → HasServed m now then → told_in then.seen m phase ≡ told_in now.seen m phase ++ t ∷ [] → All (HasCause now.seen m (Rose a.troubles now.troubles)) (told_in now.seen m phase) → HasCause then.seen m (Rose now.troubles then.troubles) t → All (HasCause then.seen m (Rose a.troubles then.troubles)) (told_in then.seen m phase)
+pub causes_further : (a now then : CarrierView) (m : Name) (phase : Phase) (t : Told) → HasServed m a now → HasServed m now then → told_in then.seen m phase ≡ told_in now.seen m phase ++ t ∷ [] → All (TellHasCause now.seen m (Rose a.troubles now.troubles)) (told_in now.seen m phase) → TellHasCause then.seen m (Rose now.troubles then.troubles) t → All (TellHasCause then.seen m (Rose a.troubles then.troubles)) (told_in then.seen m phase)
 causes_further a now then m phase t before served more causes cause =
-    let Had : Told → Type 0 = HasCause now.seen m (Rose a.troubles now.troubles) in
-    let Has : Told → Type 0 = HasCause then.seen m (Rose a.troubles then.troubles) in
+    let Had : Told → Type 0 = TellHasCause now.seen m (Rose a.troubles now.troubles) in
+    let Has : Told → Type 0 = TellHasCause then.seen m (Rose a.troubles then.troubles) in
     let old : All Has (told_in now.seen m phase) =
     All-weaker Had Has (cause_stays _ _ now.seen then.seen m (Rose a.troubles now.troubles) (Rose a.troubles then.troubles) served.grown (rose_later a.troubles now.troubles then.troubles served.later)) (told_in now.seen m phase) causes in
     let new : Has t = cause_stays _ _ then.seen then.seen m (Rose now.troubles then.troubles) (Rose a.troubles then.troubles) (grown_none then.others (λ n. Unit {0}) then.seen) (rose_sooner a.troubles now.troubles then.troubles before.later) t cause in

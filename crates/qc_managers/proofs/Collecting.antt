@@ -18,8 +18,8 @@ use Rattle.qc_managers.specs.Told.{Told, newest_in, replied_in, next_in}
 use Rattle.qc_managers.specs.Answered.{told_in}
 use Rattle.qc_managers.specs.Going.{MayGoOn, SameElsewhere, HasHeard, HasServed, MayCollect, HasCollected}
 use Rattle.qc_managers.specs.declared.no.MgrNo.{MgrNo}
-use Rattle.qc_managers.specs.Managed.{IsRefused, no_of}
-use Rattle.qc_managers.specs.Undisturbed.{HasCause, IsUndisturbed}
+use Rattle.qc_managers.specs.Managed.{ManagerIsRefused, no_of}
+use Rattle.qc_managers.specs.Undisturbed.{TellHasCause, IsUndisturbed}
 use Rattle.qc_managers.proofs.Causes.{causes_none, causes_further}
 use Rattle.qc_managers.proofs.Known.{newest-told, replied-told}
 use Rattle.qc_managers.proofs.Nexts.{next_enough, next_short, next_copy_of}
@@ -35,7 +35,7 @@ pub record IsCollecting (a now : CarrierView) (m : Name) (k : Kind) (first : Vot
   pub goes_on : MayGoOn a.seat now.seen m k
   pub elsewhere : SameElsewhere a.seen now.seen m Collect
   pub kept_is : kept ≡ gathered first (told_in now.seen m Collect)
-  pub causes : All (HasCause now.seen m (Rose a.troubles now.troubles)) (told_in now.seen m Collect)
+  pub causes : All (TellHasCause now.seen m (Rose a.troubles now.troubles)) (told_in now.seen m Collect)
 
 pub collecting_begins : (a : CarrierView) (m : Name) (k : Kind) (rec : ℕ) (first : Voting) (kept : Gathered) → MayCollect a.setting a.seat a.seen m k rec first → kept ≡ gathered first [] → IsCollecting a a m k first kept
 collecting_begins a m k rec first kept may is =
@@ -77,10 +77,10 @@ module _ (a now : CarrierView) (m : Name) (k : Kind) (first : Voting) (kept : Ga
         (subst (λ seat. MayCarry a.setting seat now.seen m copy (record_of k) Get) (sym h.served.seat)
         (may_carry a.setting a.seat now.seen m k here copy may.manages h.goes_on (at_here next.0) (next_here (Some copy) next.1))))
 
-    pub is_short : (short : Shortage) (why : MgrNo) → why ≡ no_of short → short ≡ shortage_in Collect told → Does Short → IsRefused a.setting a.seat now.seen m k why
+    pub is_short : (short : Shortage) (why : MgrNo) → why ≡ no_of short → short ≡ shortage_in Collect told → Does Short → ManagerIsRefused a.setting a.seat now.seen m k why
     is_short short why for by does =
         let next = next_short _ (newest_in first told).config told does in
-        subst (IsRefused a.setting a.seat now.seen m k) (sym (for ∙ ap no_of by))
+        subst (ManagerIsRefused a.setting a.seat now.seen m k) (sym (for ∙ ap no_of by))
         (refused_short a.setting a.seat now.seen m k here h.goes_on (at_here next.0) (next_here None next.1))
 
     -- where it is short, it was disturbed
@@ -98,7 +98,7 @@ module _ (a now : CarrierView) (m : Name) (k : Kind) (first : Voting) (kept : Ga
   may_go_on = subst (λ seat. MayGoOn seat now.seen m k) (sym h.served.seat) h.goes_on
 
   module _ (then : CarrierView) (t : Told) (served : HasServed m now then) (heard : HasHeard now.seat now.seen then.seen m k Collect (t ∷ [])) where
-    pub collects_on : HasCause then.seen m (Rose now.troubles then.troubles) t → (kept' : Gathered) → kept' ≡ gathered first (told ++ t ∷ []) → IsCollecting a then m k first kept'
+    pub collects_on : TellHasCause then.seen m (Rose now.troubles then.troubles) t → (kept' : Gathered) → kept' ≡ gathered first (told ++ t ∷ []) → IsCollecting a then m k first kept'
     collects_on cause kept' is =
         record {
           served = served_further m a now then h.served served;

@@ -18,7 +18,7 @@ use Rattle.qc_managers.specs.Carrying.{IsRunning, HasGrown, IsTold, Carriage, ow
 use Rattle.qc_managers.specs.declared.carrier.CarryNo.{CarryNo}
 use Rattle.qc_managers.specs.declared.carrier.CarryNo.TheVariants as carry
 use Rattle.qc_managers.specs.Answered.{told_of, told_in, EachTold}
-use Rattle.qc_managers.specs.Managed.{mgr_no, IsRefused}
+use Rattle.qc_managers.specs.Managed.{mgr_no, ManagerIsRefused}
 use Rattle.qc_managers.specs.Going.{SameElsewhere, HasHeard, HasMade}
 use Rattle.qc_managers.proofs.Served.{carried_by, stopped_by, begun_by}
 
@@ -108,7 +108,7 @@ heard_of others Names seat m k way r one carried =
       elsewhere = told_elsewhere way.before way.now m way.ask r told;
     }
 
-pub refused_of : (setting : Setting) (others : Entry → Bool) (Names : Name → Type 0) (seat : ℕ) (m : Name) (k : Kind) (way : Carriage) (why : CarryNo) → OneAccess others Names seat m k way → WasNotCarried way why → IsRefused setting seat way.now m k (mgr_no why)
+pub refused_of : (setting : Setting) (others : Entry → Bool) (Names : Name → Type 0) (seat : ℕ) (m : Name) (k : Kind) (way : Carriage) (why : CarryNo) → OneAccess others Names seat m k way → WasNotCarried way why → ManagerIsRefused setting seat way.now m k (mgr_no why)
 refused_of setting others Names seat m k way (carry.Orphan a) one stopped =
     record {
       running = record {

@@ -18,7 +18,7 @@ use Rattle.qc_managers.specs.declared.no.MgrNo.TheVariants as mgr
 use Rattle.qc_managers.specs.Answered.{told_in}
 use Rattle.qc_managers.specs.Carrying.{CarrierView}
 use Rattle.qc_managers.specs.Going.{HasServed, HasPut, putting}
-use Rattle.qc_managers.specs.Managed.{IsAnswered, IsRefused}
+use Rattle.qc_managers.specs.Managed.{IsAnswered, ManagerIsRefused}
 use Rattle.qc_managers.proofs.Answered.{kind_at, nothing_told}
 use Rattle.qc_managers.proofs.Known.{newest-told, greatest-told}
 use Rattle.qc_managers.proofs.Onwards.{HasGathered, IsAtStage, at_last, at_first, at_next, may_commit}
@@ -41,7 +41,7 @@ module _ (a now : CarrierView) (m : Name) (rec : ℕ) (new : Voting) (kept : Gat
   found : (generation : ℕ) → generation ≡ (newest_in first told).generation → (newest now.seen first m).generation ≡ generation
   found generation is = ap (λ (n : Newest). n.generation) (newest-told now.seen first m) ∙ sym is
 
-  pub at_last_generation : (generation : ℕ) → generation ≡ (newest_in first told).generation → generation ≡ 2 ^ 64 - 1 → IsRefused a.setting a.seat now.seen m reconf mgr.Last
+  pub at_last_generation : (generation : ℕ) → generation ≡ (newest_in first told).generation → generation ≡ 2 ^ 64 - 1 → ManagerIsRefused a.setting a.seat now.seen m reconf mgr.Last
   at_last_generation generation is last = at_last a now m reconf kept h (eq-eqb (newest now.seen first m).generation (2 ^ 64 - 1) (found generation is ∙ last))
 
   module _ (generation : ℕ) (old : Voting) (version value : ℕ) (generation_is : generation ≡ (newest_in first told).generation) (old_is : old ≡ (newest_in first told).config) (version_is : version ≡ (greatest_in told).version) (value_is : value ≡ (greatest_in told).value) (not_last : generation ≡ 2 ^ 64 - 1 → ⊥) where

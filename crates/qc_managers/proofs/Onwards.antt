@@ -21,7 +21,7 @@ use Rattle.qc_managers.specs.declared.no.MgrNo.{MgrNo}
 use Rattle.qc_managers.specs.declared.no.MgrNo.TheVariants as mgr
 use Rattle.qc_managers.specs.Answered.{told_in}
 use Rattle.qc_managers.specs.Going.{HasServed, HasCollected, MayPut, HasPut}
-use Rattle.qc_managers.specs.Managed.{IsAnswered, IsRefused}
+use Rattle.qc_managers.specs.Managed.{IsAnswered, ManagerIsRefused}
 use Rattle.qc_managers.specs.Undisturbed.{IsUndisturbed, IsShortage}
 use Rattle.qc_managers.proofs.Answered.{kind_or, kind_at, nothing_asked, nothing_told}
 use Rattle.qc_managers.proofs.Served.{served_further}
@@ -75,7 +75,7 @@ module _ (a now : CarrierView) (m : Name) (k : Kind) (kept : Gathered) (h : HasG
   here = collecting (newest now.seen first m)
 
   -- its number is at the last one
-  pub at_last : is_last k (newest now.seen first m) (greatest now.seen m) ≡ true → IsRefused a.setting a.seat now.seen m k mgr.Last
+  pub at_last : is_last k (newest now.seen first m) (greatest now.seen m) ≡ true → ManagerIsRefused a.setting a.seat now.seen m k mgr.Last
   at_last last = record { running = h.collected.goes_on.running; licensed = and_from (is_enough now.seen m here) _ h.collected.enough last }
 
   -- the stage after the collection
@@ -114,11 +114,11 @@ module _ (a now : CarrierView) (m : Name) (k : Kind) (earlier : List Stage) (s :
       (subst (λ x. MayPut a.setting a.seat now.seen m x (record_of k) s) (sym (kind_is a.seat now.seen m k h.may.goes_on.running)) h.may))
 
   -- where it is refused there, it is so by the carrier where it began
-  pub refused_there : (past : Past) (why : MgrNo) → IsRefused now.setting now.seat past m (kind_at now.seen m) why → IsRefused a.setting a.seat past m k why
+  pub refused_there : (past : Past) (why : MgrNo) → ManagerIsRefused now.setting now.seat past m (kind_at now.seen m) why → ManagerIsRefused a.setting a.seat past m k why
   refused_there past why refused =
-      subst (λ x. IsRefused x a.seat past m k why) h.served.setting
-      (subst (λ x. IsRefused now.setting x past m k why) h.served.seat
-      (subst (λ x. IsRefused now.setting now.seat past m x why) (kind_is a.seat now.seen m k h.may.goes_on.running) refused))
+      subst (λ x. ManagerIsRefused x a.seat past m k why) h.served.setting
+      (subst (λ x. ManagerIsRefused now.setting x past m k why) h.served.seat
+      (subst (λ x. ManagerIsRefused now.setting now.seat past m x why) (kind_is a.seat now.seen m k h.may.goes_on.running) refused))
 
   -- where it came to no answer there, and nothing disturbed it, memory or room was wanting
   pub complete_there : (past : Past) (troubles : ℕ) (why : MgrNo) → (IsUndisturbed now.setting past m (kind_at now.seen m) now.troubles troubles → IsShortage why) → IsUndisturbed a.setting past m k a.troubles troubles → IsShortage why

@@ -18,8 +18,8 @@ use Rattle.qc_managers.specs.Told.{Told, replied_in}
 use Rattle.qc_managers.specs.Answered.{told_in}
 use Rattle.qc_managers.specs.Going.{MayGoOn, SameElsewhere, HasHeard, HasServed, MayPut, HasPut, putting}
 use Rattle.qc_managers.specs.declared.no.MgrNo.{MgrNo}
-use Rattle.qc_managers.specs.Managed.{IsRefused, no_of}
-use Rattle.qc_managers.specs.Undisturbed.{HasCause, IsUndisturbed}
+use Rattle.qc_managers.specs.Managed.{ManagerIsRefused, no_of}
+use Rattle.qc_managers.specs.Undisturbed.{TellHasCause, IsUndisturbed}
 use Rattle.qc_managers.proofs.Causes.{causes_none, causes_further}
 use Rattle.qc_managers.proofs.Nexts.{next_enough, next_short, next_copy_of}
 use Rattle.qc_managers.proofs.Served.{served_none, served_further}
@@ -34,7 +34,7 @@ pub record IsPutting (a now : CarrierView) (m : Name) (k : Kind) (config : Votin
   pub goes_on : MayGoOn a.seat now.seen m k
   pub elsewhere : SameElsewhere a.seen now.seen m phase
   pub kept_is : kept ≡ put config phase (told_in now.seen m phase)
-  pub causes : All (HasCause now.seen m (Rose a.troubles now.troubles)) (told_in now.seen m phase)
+  pub causes : All (TellHasCause now.seen m (Rose a.troubles now.troubles)) (told_in now.seen m phase)
 
 pub putting_begins : (a : CarrierView) (m : Name) (k : Kind) (rec : ℕ) (config : Voting) (phase : Phase) (op : Op) (kept : Putting) → MayPut a.setting a.seat a.seen m k rec (putting config phase op) → kept ≡ put config phase [] → IsPutting a a m k config phase kept
 putting_begins a m k rec config phase op kept may is =
@@ -64,10 +64,10 @@ module _ (a now : CarrierView) (m : Name) (k : Kind) (config : Voting) (phase : 
         (subst (λ seat. MayCarry a.setting seat now.seen m copy (record_of k) op) (sym h.served.seat)
         (may_carry a.setting a.seat now.seen m k (putting config phase op) copy may.manages h.goes_on (at_here next.0) next.1)))
 
-    pub is_short : (short : Shortage) (why : MgrNo) → why ≡ no_of short → short ≡ shortage_in phase told → Does Short → IsRefused a.setting a.seat now.seen m k why
+    pub is_short : (short : Shortage) (why : MgrNo) → why ≡ no_of short → short ≡ shortage_in phase told → Does Short → ManagerIsRefused a.setting a.seat now.seen m k why
     is_short short why for by does =
         let next = next_short _ config told does in
-        subst (IsRefused a.setting a.seat now.seen m k) (sym (for ∙ ap no_of by)) (refused_short a.setting a.seat now.seen m k (putting config phase op) h.goes_on (at_here next.0) next.1)
+        subst (ManagerIsRefused a.setting a.seat now.seen m k) (sym (for ∙ ap no_of by)) (refused_short a.setting a.seat now.seen m k (putting config phase op) h.goes_on (at_here next.0) next.1)
 
     -- where it is short, it was disturbed
     pub short_disturbed : length kept.config.votes ≤ 16 → Does Short → IsUndisturbed a.setting now.seen m k a.troubles now.troubles → ⊥
@@ -79,7 +79,7 @@ module _ (a now : CarrierView) (m : Name) (k : Kind) (config : Voting) (phase : 
       heard_here : HasHeard now.seat now.seen then.seen m k phase (t ∷ [])
       heard_here = subst (λ p. HasHeard now.seat now.seen then.seen m k p (t ∷ [])) (sym may.of_phase) heard
 
-      pub puts_on : HasCause then.seen m (Rose now.troubles then.troubles) t → (kept' : Putting) → kept' ≡ put config phase (told ++ t ∷ []) → IsPutting a then m k config phase kept'
+      pub puts_on : TellHasCause then.seen m (Rose now.troubles then.troubles) t → (kept' : Putting) → kept' ≡ put config phase (told ++ t ∷ []) → IsPutting a then m k config phase kept'
       puts_on cause kept' is =
           record {
             served = served_further m a now then h.served served;

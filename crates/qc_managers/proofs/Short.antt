@@ -18,7 +18,7 @@ use Rattle.qc_managers.specs.declared.shortage.Shortage.{Shortage}
 use Rattle.qc_managers.specs.declared.shortage.Shortage.TheVariants as shortage
 use Rattle.qc_managers.specs.Heard.{block_in, conflict, shortage_in}
 use Rattle.qc_managers.specs.Answered.{told_in, EachTold}
-use Rattle.qc_managers.specs.Managed.{IsRefused, no_of}
+use Rattle.qc_managers.specs.Managed.{ManagerIsRefused, no_of}
 use Rattle.qc_managers.specs.Going.{MayGoOn}
 use Rattle.qc_managers.proofs.Lists.{SameBlocked}
 use Rattle.qc_managers.proofs.Known.{map_agree, has_replied-told, replied-told, missing-told, next_copy-told, blocked-told, waiting-told}
@@ -98,10 +98,10 @@ module _ (past : Past) (m : Name) (s : Stage) (each : EachTold past m) (none : n
       by_holder (Some holder) here = record { failed = failed; first = there t holder (first_blocked past m s.phase) here same }
 
 -- A manager that is short at its stage may end for the cause that is named.
-pub refused_short : (setting : Setting) (seat : ℕ) (past : Past) (m : Name) (k : Kind) (s : Stage) → MayGoOn seat past m k → stage past (first_for setting k) m k ≡ Some s → next_in s.config (told_in past m s.phase) ≡ None → IsRefused setting seat past m k (no_of (shortage_in s.phase (told_in past m s.phase)))
+pub refused_short : (setting : Setting) (seat : ℕ) (past : Past) (m : Name) (k : Kind) (s : Stage) → MayGoOn seat past m k → stage past (first_for setting k) m k ≡ Some s → next_in s.config (told_in past m s.phase) ≡ None → ManagerIsRefused setting seat past m k (no_of (shortage_in s.phase (told_in past m s.phase)))
 refused_short setting seat past m k s goes at none =
     by_cause (shortage_in s.phase (told_in past m s.phase)) (by_first past m s goes.each_told none (blocked_in (told_in past m s.phase)) refl (blocked-told past m s.phase))
   where
-    by_cause : (short : Shortage) → FailedBy past m s goes.each_told none short → IsRefused setting seat past m k (no_of short)
+    by_cause : (short : Shortage) → FailedBy past m s goes.each_told none short → ManagerIsRefused setting seat past m k (no_of short)
     by_cause (shortage.Conflict copy holder) h = record { running = goes.running; licensed = at_stage (stage past (first_for setting k) m k) s (FailedByConflict past m copy holder) at h }
     by_cause (shortage.NoQuorum lack) h = record { running = goes.running; licensed = at_stage (stage past (first_for setting k) m k) s (FailedByLack past m lack) at h }

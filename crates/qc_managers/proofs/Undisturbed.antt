@@ -24,8 +24,8 @@ use Rattle.qc_managers.specs.declared.carrier.CarryNo.{CarryNo}
 use Rattle.qc_managers.specs.declared.carrier.CarryNo.TheVariants as carry
 use Rattle.qc_managers.specs.Told.{Told, why_in, missing_in, blocked_in, next_in, replied_in}
 use Rattle.qc_managers.specs.Answered.{told_in}
-use Rattle.qc_managers.specs.Managed.{mgr_no, IsRefused}
-use Rattle.qc_managers.specs.Undisturbed.{HasCause, StandsOn, IsUndisturbed, IsShortage}
+use Rattle.qc_managers.specs.Managed.{mgr_no, ManagerIsRefused}
+use Rattle.qc_managers.specs.Undisturbed.{TellHasCause, StandsOn, IsUndisturbed, IsShortage}
 use Rattle.qc_managers.proofs.Causes.{stands_on_nothing, rose_sooner}
 use Rattle.qc_managers.proofs.Lists.{told_all, told_then}
 use Rattle.qc_managers.proofs.Quorums.{hold_quorums}
@@ -65,14 +65,14 @@ module _ (setting : Setting) (past : Past) (m : Name) (k : Kind) (before now : �
   pub never_last : IsTrue (at_last_number past (first_for setting k) m k) → ⊥
   never_last last = true≢false (sym last ∙ u.not_last)
 
-  no_reason : (t : Told) → HasCause past m (Rose before now) t → why_in t ≡ None
+  no_reason : (t : Told) → TellHasCause past m (Rose before now) t → why_in t ≡ None
   no_reason t = of_why (why_in t)
     where
       of_why : (o : Option Why) → MatchOption o (Unit {0}) (StandsOn past m (Rose before now)) → o ≡ None
       of_why None h = refl
       of_why (Some why) h = absurd (stands_on_nothing past m (Rose before now) u.quiet u.able why h)
 
-  each_here : (told : List Told) → AllByRecursion (HasCause past m (Rose before now)) told → AllByRecursion (λ t. why_in t ≡ None) told
+  each_here : (told : List Told) → AllByRecursion (TellHasCause past m (Rose before now)) told → AllByRecursion (λ t. why_in t ≡ None) told
   each_here [] causes = tt
   each_here (t ∷ told) causes = (no_reason t causes.0, each_here told causes.1)
 
@@ -83,11 +83,11 @@ module _ (setting : Setting) (past : Past) (m : Name) (k : Kind) (before now : �
       none_blocked past (asks_in past m phase) (recursion_from_All P (asks_in past m phase) (All-filter (λ (ask : Ask). is_phase phase (phase_of ask.op)) P (asks past m) u.free))
 
   -- it is not short at its stage, where what it was told there has causes
-  pub never_short : (s : Stage) → stage past (first_for setting k) m k ≡ Some s → length s.config.votes ≤ 16 → All (HasCause past m (Rose before now)) (told_in past m s.phase) → next_in s.config (told_in past m s.phase) ≡ None → enough_by s (replied_in (told_in past m s.phase)) ≡ false → ⊥
+  pub never_short : (s : Stage) → stage past (first_for setting k) m k ≡ Some s → length s.config.votes ≤ 16 → All (TellHasCause past m (Rose before now)) (told_in past m s.phase) → next_in s.config (told_in past m s.phase) ≡ None → enough_by s (replied_in (told_in past m s.phase)) ≡ false → ⊥
   never_short s at few causes none short =
       let told = told_in past m s.phase in
       let legal : IsLegal s.config = subst (λ o. MatchOption o (Unit {0}) (λ (x : Stage). IsLegal x.config)) at u.legal in
-      true≢false (sym (hold_quorums s.config told none (free s.phase) (λ copy. none_missing told copy (each_here told (recursion_from_All (HasCause past m (Rose before now)) told causes))) s.writes few legal) ∙ short)
+      true≢false (sym (hold_quorums s.config told none (free s.phase) (λ copy. none_missing told copy (each_here told (recursion_from_All (TellHasCause past m (Rose before now)) told causes))) s.writes few legal) ∙ short)
 
 -- where an access was not carried to an answer, memory or room was wanting
 pub shortage_of : (setting : Setting) (way : Carriage) (m : Name) (k : Kind) (before now : ℕ) (why : CarryNo) → way.manager ≡ m → WasNotCarried way why → IsUndisturbed setting way.now m k before now → IsShortage (mgr_no why)
@@ -104,9 +104,9 @@ undisturbed_since setting then past m k before later now same more u =
 
 module _ (m : Name) (k : Kind) (a now : CarrierView) (served : HasServed m a now) where
   -- where the next request is refused, the manager is
-  pub refused_on : (past : Past) (why : MgrNo) → IsRefused now.setting now.seat past m k why → IsRefused a.setting a.seat past m k why
+  pub refused_on : (past : Past) (why : MgrNo) → ManagerIsRefused now.setting now.seat past m k why → ManagerIsRefused a.setting a.seat past m k why
   refused_on past why refused =
-      subst (λ setting. IsRefused setting a.seat past m k why) served.setting (subst (λ seat. IsRefused now.setting seat past m k why) served.seat refused)
+      subst (λ setting. ManagerIsRefused setting a.seat past m k why) served.setting (subst (λ seat. ManagerIsRefused now.setting seat past m k why) served.seat refused)
 
   -- and where nothing disturbed the manager, memory or room was wanting
   pub complete_on : (past : Past) (troubles : ℕ) (why : MgrNo) → (IsUndisturbed now.setting past m k now.troubles troubles → IsShortage why) → IsUndisturbed a.setting past m k a.troubles troubles → IsShortage why

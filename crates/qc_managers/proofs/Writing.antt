@@ -16,7 +16,7 @@ use Rattle.qc_managers.specs.Answered.{told_in}
 use Rattle.qc_managers.specs.Carrying.{CarrierView}
 use Rattle.qc_managers.specs.Going.{HasPut, putting}
 use Rattle.qc_managers.specs.declared.no.MgrNo.TheVariants as mgr
-use Rattle.qc_managers.specs.Managed.{IsAnswered, IsRefused}
+use Rattle.qc_managers.specs.Managed.{IsAnswered, ManagerIsRefused}
 use Rattle.qc_managers.proofs.Answered.{kind_at}
 use Rattle.qc_managers.proofs.Known.{newest-told, greatest-told}
 use Rattle.qc_managers.proofs.Onwards.{HasGathered, IsAtStage, at_last, at_first, may_commit}
@@ -36,7 +36,7 @@ module _ (a now : CarrierView) (m : Name) (rec value : ℕ) (kept : Gathered) (h
   found : (version : ℕ) → version ≡ (greatest_in told).version → (greatest now.seen m).version ≡ version
   found version is = ap (λ (g : Greatest). g.version) (greatest-told now.seen m) ∙ sym is
 
-  pub at_last_version : (version : ℕ) → version ≡ (greatest_in told).version → version ≡ 2 ^ 64 - 1 → IsRefused a.setting a.seat now.seen m write mgr.Last
+  pub at_last_version : (version : ℕ) → version ≡ (greatest_in told).version → version ≡ 2 ^ 64 - 1 → ManagerIsRefused a.setting a.seat now.seen m write mgr.Last
   at_last_version version is last = at_last a now m write kept h (eq-eqb (greatest now.seen m).version (2 ^ 64 - 1) (found version is ∙ last))
 
   module _ (version : ℕ) (config : Voting) (is : version ≡ (greatest_in told).version) (not_last : version ≡ 2 ^ 64 - 1 → ⊥) (by : config ≡ (newest_in first told).config) where

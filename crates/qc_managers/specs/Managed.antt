@@ -43,8 +43,8 @@ IsShort past (no.Short short) = IsWant past short
 IsShort past _ = Unit {0}
 
 -- A manager came to no answer: it may end for the cause, or memory or room was wanting.
-abbrev pub IsRefused : Setting → ℕ → Past → Name → Kind → MgrNo → Type 0
-IsRefused setting seat past m k why = MatchOption (cause_of why) (IsShort past why) (MayEndFor setting seat past m k)
+abbrev pub ManagerIsRefused : Setting → ℕ → Past → Name → Kind → MgrNo → Type 0
+ManagerIsRefused setting seat past m k why = MatchOption (cause_of why) (IsShort past why) (MayEndFor setting seat past m k)
 
 -- the reason of a manager whose access was not carried to an answer
 abbrev pub mgr_no : CarryNo → MgrNo

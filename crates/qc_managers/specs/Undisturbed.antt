@@ -27,8 +27,8 @@ StandsOn past m Trouble Late = Trouble
 StandsOn past m Trouble why = IsTrue (any_unable past m why)
 
 -- Where what a manager was told is that an access is missing, its reason stands on something.
-abbrev pub HasCause : Past → Name → Type 0 → Told → Type 0
-HasCause past m Trouble t = MatchOption (why_in t) (Unit {0}) (StandsOn past m Trouble)
+abbrev pub TellHasCause : Past → Name → Type 0 → Told → Type 0
+TellHasCause past m Trouble t = MatchOption (why_in t) (Unit {0}) (StandsOn past m Trouble)
 
 -- No copy was unable to serve an access: it was not down or full, nor in a strange state.
 abbrev pub IsAble : Past → Ask → Type 0

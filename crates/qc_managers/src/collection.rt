@@ -6,7 +6,7 @@ ghost use Rattle.qc_managers.specs.Carrying.{became};
 ghost use Rattle.qc_managers.specs.Gathered.{gathered};
 ghost use Rattle.qc_managers.specs.Told.{Told};
 ghost use Rattle.qc_managers.specs.Going.{MayCollect, HasServed, HasCollected};
-ghost use Rattle.qc_managers.specs.Managed.{IsRefused};
+ghost use Rattle.qc_managers.specs.Managed.{ManagerIsRefused};
 ghost use Rattle.qc_managers.specs.Undisturbed.{IsUndisturbed, IsShortage};
 
 use crate::carrier::{Carried, Carrier};
@@ -47,8 +47,8 @@ pub fn collect<C: Carrier>(
     ensures served { HasServed manager.now (C.view carrier.old) (C.view carrier.new) }
     ensures collected { IfOk result (HasCollected (C.view carrier.old).seat
         (C.view carrier.old).seen (C.view carrier.new).seen manager.now kind first.now) }
-    ensures refused { IfErr result (IsRefused (C.view carrier.old).setting (C.view carrier.old).seat
-        (C.view carrier.new).seen manager.now kind) }
+    ensures refused { IfErr result (ManagerIsRefused (C.view carrier.old).setting
+        (C.view carrier.old).seat (C.view carrier.new).seen manager.now kind) }
     ensures complete { IfErr result (λ why. IsUndisturbed (C.view carrier.old).setting
         (C.view carrier.new).seen manager.now kind (C.view carrier.old).troubles
         (C.view carrier.new).troubles → IsShortage why) }

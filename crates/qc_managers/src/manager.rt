@@ -7,7 +7,7 @@ ghost use Rattle.qc_event.specs.History.{children, is_child};
 ghost use Rattle.qc_event.specs.Manager.{greatest};
 ghost use Rattle.qc_managers.specs.Carrying.{own_entries, IsRunning, HasGrown};
 ghost use Rattle.qc_managers.specs.Going.{HasMade};
-ghost use Rattle.qc_managers.specs.Managed.{IsAnswered, IsRefused};
+ghost use Rattle.qc_managers.specs.Managed.{IsAnswered, ManagerIsRefused};
 ghost use Rattle.qc_managers.specs.Undisturbed.{IsUndisturbed, IsShortage};
 
 use crate::carrier::Carrier;
@@ -41,8 +41,8 @@ pub fn read<C: Carrier>(
     ensures answered { IfOk result (λ value. IsAnswered (C.view carrier.old).setting
         (C.view carrier.old).seat (C.view carrier.new).seen manager.now (kind.Read rec)
         (answer.Value value)) }
-    ensures refused { IfErr result (IsRefused (C.view carrier.old).setting (C.view carrier.old).seat
-        (C.view carrier.new).seen manager.now (kind.Read rec)) }
+    ensures refused { IfErr result (ManagerIsRefused (C.view carrier.old).setting
+        (C.view carrier.old).seat (C.view carrier.new).seen manager.now (kind.Read rec)) }
     ensures complete { IfErr result (λ why. IsUndisturbed (C.view carrier.old).setting
         (C.view carrier.new).seen manager.now (kind.Read rec) (C.view carrier.old).troubles
         (C.view carrier.new).troubles → IsShortage why) }
@@ -82,8 +82,8 @@ pub fn write<C: Carrier>(
         answer.Nothing) }
     ensures version { IfOk result (λ version. version ≡ (greatest (C.view carrier.new).seen
         manager.now).version + 1) }
-    ensures refused { IfErr result (IsRefused (C.view carrier.old).setting (C.view carrier.old).seat
-        (C.view carrier.new).seen manager.now (kind.Write rec value)) }
+    ensures refused { IfErr result (ManagerIsRefused (C.view carrier.old).setting
+        (C.view carrier.old).seat (C.view carrier.new).seen manager.now (kind.Write rec value)) }
     ensures complete { IfErr result (λ why. IsUndisturbed (C.view carrier.old).setting
         (C.view carrier.new).seen manager.now (kind.Write rec value) (C.view carrier.old).troubles
         (C.view carrier.new).troubles → IsShortage why) }

@@ -7,7 +7,7 @@ ghost use Rattle.qc_managers.specs.Carrying.{became};
 ghost use Rattle.qc_managers.specs.Gathered as gathered_words;
 ghost use Rattle.qc_managers.specs.Told.{Told};
 ghost use Rattle.qc_managers.specs.Going.{MayPut, HasServed, HasPut, putting};
-ghost use Rattle.qc_managers.specs.Managed.{IsRefused};
+ghost use Rattle.qc_managers.specs.Managed.{ManagerIsRefused};
 ghost use Rattle.qc_managers.specs.Undisturbed.{IsUndisturbed, IsShortage};
 
 use crate::carrier::{Carried, Carrier};
@@ -50,8 +50,8 @@ pub fn put<C: Carrier>(
     ensures served { HasServed manager.now (C.view carrier.old) (C.view carrier.new) }
     ensures put { OnOk result (HasPut (C.view carrier.old).seat (C.view carrier.old).seen
         (C.view carrier.new).seen manager.now kind (putting config.now phase op.now)) }
-    ensures refused { IfErr result (IsRefused (C.view carrier.old).setting (C.view carrier.old).seat
-        (C.view carrier.new).seen manager.now kind) }
+    ensures refused { IfErr result (ManagerIsRefused (C.view carrier.old).setting
+        (C.view carrier.old).seat (C.view carrier.new).seen manager.now kind) }
     ensures complete { IfErr result (λ why. IsUndisturbed (C.view carrier.old).setting
         (C.view carrier.new).seen manager.now kind (C.view carrier.old).troubles
         (C.view carrier.new).troubles → IsShortage why) }

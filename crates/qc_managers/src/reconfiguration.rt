@@ -9,7 +9,7 @@ ghost use Rattle.qc_event.specs.History.{children, is_child};
 ghost use Rattle.qc_event.specs.Manager.{newest, replied};
 ghost use Rattle.qc_managers.specs.Carrying.{own_entries, IsRunning, HasGrown};
 ghost use Rattle.qc_managers.specs.Going.{HasMade};
-ghost use Rattle.qc_managers.specs.Managed.{IsAnswered, IsRefused};
+ghost use Rattle.qc_managers.specs.Managed.{IsAnswered, ManagerIsRefused};
 ghost use Rattle.qc_managers.specs.Undisturbed.{IsUndisturbed, IsShortage};
 
 use crate::carrier::Carrier;
@@ -57,8 +57,8 @@ pub fn reconfigure<C: Carrier>(
         (C.view carrier.new).seen manager.now Values))) }
     ensures config_moved { IfOk result (λ _. IsTrue (holds_write (newest (C.view carrier.new).seen
         first.now manager.now).config (replied (C.view carrier.new).seen manager.now Configs))) }
-    ensures refused { IfErr result (IsRefused (C.view carrier.old).setting (C.view carrier.old).seat
-        (C.view carrier.new).seen manager.now (kind.Reconf rec new.now)) }
+    ensures refused { IfErr result (ManagerIsRefused (C.view carrier.old).setting
+        (C.view carrier.old).seat (C.view carrier.new).seen manager.now (kind.Reconf rec new.now)) }
     ensures complete { IfErr result (λ why. IsUndisturbed (C.view carrier.old).setting
         (C.view carrier.new).seen manager.now (kind.Reconf rec new.now)
         (C.view carrier.old).troubles (C.view carrier.new).troubles → IsShortage why) }

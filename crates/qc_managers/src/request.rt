@@ -5,8 +5,8 @@ ghost use Rattle.qc_event.specs.Counts.{Rose};
 ghost use Rattle.qc_event.specs.Manager.{phase_of};
 ghost use Rattle.qc_managers.specs.Carrying.{MayCarry, became};
 ghost use Rattle.qc_managers.specs.Going.{MayGoOn, HasHeard, HasServed};
-ghost use Rattle.qc_managers.specs.Managed.{IsRefused};
-ghost use Rattle.qc_managers.specs.Undisturbed.{HasCause, IsUndisturbed, IsShortage};
+ghost use Rattle.qc_managers.specs.Managed.{ManagerIsRefused};
+ghost use Rattle.qc_managers.specs.Undisturbed.{TellHasCause, IsUndisturbed, IsShortage};
 
 use crate::carrier::{Carried, Carrier};
 use crate::no::MgrNo;
@@ -31,11 +31,11 @@ pub(crate) fn request<C: Carrier>(
     ensures heard { IfOk result (λ c. HasHeard (C.view carrier.old).seat (C.view carrier.old).seen
         (C.view carrier.new).seen manager.now kind (phase_of op)
         (record { copy = copy; result = became c } ∷ [])) }
-    ensures cause { IfOk result (λ c. HasCause (C.view carrier.new).seen manager.now
+    ensures cause { IfOk result (λ c. TellHasCause (C.view carrier.new).seen manager.now
         (Rose (C.view carrier.old).troubles (C.view carrier.new).troubles)
         (record { copy = copy; result = became c })) }
-    ensures refused { IfErr result (IsRefused (C.view carrier.old).setting (C.view carrier.old).seat
-        (C.view carrier.new).seen manager.now kind) }
+    ensures refused { IfErr result (ManagerIsRefused (C.view carrier.old).setting
+        (C.view carrier.old).seat (C.view carrier.new).seen manager.now kind) }
     ensures complete { IfErr result (λ why. IsUndisturbed (C.view carrier.old).setting
         (C.view carrier.new).seen manager.now kind (C.view carrier.old).troubles
         (C.view carrier.new).troubles → IsShortage why) }

@@ -21,7 +21,7 @@ use Rattle.qc_moss.specs.declared.holder.Holder.{Holder}
 use Rattle.qc_moss.specs.declared.holder.Put.{Put}
 use Rattle.qc_moss.specs.declared.holder.Change.{Change}
 use Rattle.qc_moss.specs.Locks.{Table, alone, joined, effect, with_put, with_change, in_way, first_in_way, holders_of, test_of, test_by, tuple_of, start_of, base_of}
-use Rattle.qc_moss.specs.Follows.{IsAmong, IsInherited, AreOf, AreFolded, Follows, IsStill, HoldsStill, IsSettled}
+use Rattle.qc_moss.specs.Follows.{IsAmong, IsInherited, AreOf, AreFolded, TableFollows, IsStill, HoldsStill, IsSettled}
 use Rattle.qc_moss.specs.Follows.AreOf.{none, gone, kept, more, read}
 use Rattle.qc_moss.specs.Follows.AreFolded.{nothing, folded}
 use Rattle.qc_moss.proofs.Ancestry.{all_above, not_all_above, alive_if, alive_at, committed_lives}
@@ -186,7 +186,7 @@ folded_first past op access given start base held (folded h root is are) still a
     ap (λ n. option_or (if name.is_ancestor n access then None else if not (is_get op) then Some h.first else h.writer) (first_in_way access (not (is_get op)) held)) (sym root)
     ∙ same_first past op access [] given (h ∷ held) are (nobody past op access) (All-cons (HoldsStill past) h held (root_still past h root alive) still)
 
-pub free : (past : Past) (given : List Grant) (table : Table) (access : Name) (rec : ℕ) (op : Op) → Follows past given table → IsSettled past table rec → dead past [] ≡ None
+pub free : (past : Past) (given : List Grant) (table : Table) (access : Name) (rec : ℕ) (op : Op) → TableFollows past given table → IsSettled past table rec → dead past [] ≡ None
     → test_of table access rec (not (is_get op)) ≡ test_by (option_map (λ (g : Grant). g.access) (find (is_in_way past rec op access) given))
 free past given table access rec op follows settled alive =
     let here : Grant → Bool = λ g. g.rec == rec in
@@ -271,7 +271,7 @@ folded_same : (past : Past) (given : List Grant) (start base : Tuple) (held : Li
 folded_same past given start base held (nothing is are) still alive = ap (λ t. fold effect t held) is ∙ changed_same past start [] given held are still
 folded_same past given start base held (folded h root is are) still alive = ap (λ t. fold effect t held) is ∙ changed_same past start [] given (h ∷ held) are (All-cons (HoldsStill past) h held (root_still past h root alive) still)
 
-pub tuple : (past : Past) (given : List Grant) (table : Table) (rec : ℕ) → Follows past given table → IsSettled past table rec → dead past [] ≡ None
+pub tuple : (past : Past) (given : List Grant) (table : Table) (rec : ℕ) → TableFollows past given table → IsSettled past table rec → dead past [] ≡ None
     → tuple_of table rec ≡ changed_by (start_of table rec) (filter (is_live_at past rec) given)
 tuple past given table rec follows settled alive =
     folded_same past (filter (λ (g : Grant). g.rec == rec) given) (start_of table rec) (base_of table rec) (holders_of table rec) (follows rec) settled alive

@@ -13,7 +13,7 @@ use Rattle.qc_event.specs.History.{Past, Name}
 use Rattle.qc_moss.specs.declared.holder.Holder.{Holder}
 use Rattle.qc_moss.specs.Locks.{Table, unheld, holders_of, start_of, base_of, granted_to, alone, joined, effect, is_root, unfolded, folded_into}
 use Rattle.qc_moss.proofs.Answering.{both_effects}
-use Rattle.qc_moss.specs.Follows.{AreOf, AreFolded, Follows, Becomes, HoldsStill}
+use Rattle.qc_moss.specs.Follows.{AreOf, AreFolded, TableFollows, Becomes, HoldsStill}
 use Rattle.qc_moss.specs.Follows.AreOf.{none}
 use Rattle.qc_moss.specs.Follows.AreFolded.{nothing, folded}
 use Rattle.qc_moss.proofs.Following.{are_on, are_last, join_one}
@@ -21,22 +21,22 @@ use Rattle.qc_moss.proofs.Following.{are_on, are_last, join_one}
 none_held : (start : List Tuple) (rec : ℕ) → holders_of (unheld start) rec ≡ []
 none_held start rec = get_or-map (λ (t : Tuple). let none : List Holder = [] in none) start rec no_tuple
 
-pub starts : (past : Past) (start : List Tuple) → Follows past [] (unheld start)
+pub starts : (past : Past) (start : List Tuple) → TableFollows past [] (unheld start)
 starts past start = λ rec. nothing refl (subst (AreOf past [] []) (sym (none_held start rec)) (none []))
 
 pub folded_on : (e : Entry) (past : Past) (given : List Grant) (start base : Tuple) (held : List Holder) → AreFolded past given start base held → AreFolded (e ∷ past) given start base held
 folded_on e past given start base held (nothing is are) = nothing is (are_on e past [] given held are)
 folded_on e past given start base held (folded h root is are) = folded h root is (are_on e past [] given (h ∷ held) are)
 
-pub grows : (past : Past) (e : Entry) (given : List Grant) (table : Table) → Follows past given table → Follows (e ∷ past) given table
+pub grows : (past : Past) (e : Entry) (given : List Grant) (table : Table) → TableFollows past given table → TableFollows (e ∷ past) given table
 grows past e given table follows = λ rec. folded_on e past _ _ _ _ (follows rec)
 
 folded_last : (past : Past) (g : Grant) (given : List Grant) (start base : Tuple) (held : List Holder) → AreFolded past given start base held → AreFolded past (given ++ g ∷ []) start base (held ++ alone g.access g.access g.op ∷ [])
 folded_last past g given start base held (nothing is are) = nothing is (are_last past g [] given held are)
 folded_last past g given start base held (folded h root is are) = folded h root is (are_last past g [] given (h ∷ held) are)
 
-pub granted : (past : Past) (given : List Grant) (table : Table) (g : Grant) → g.rec < length table.held → Follows past given table
-    → Follows past (given ++ g ∷ []) (granted_to table g.access g.rec g.op)
+pub granted : (past : Past) (given : List Grant) (table : Table) (g : Grant) → g.rec < length table.held → TableFollows past given table
+    → TableFollows past (given ++ g ∷ []) (granted_to table g.access g.rec g.op)
 granted past given table g within follows = λ rec. elim (cases_Bool (g.rec == rec)) [
   | inl here ↦ subst (λ gs. AreFolded past gs (start_of table rec) (base_of table rec) (holders_of (granted_to table g.access g.rec g.op) rec)) (sym (filter-append (λ (x : Grant). x.rec == rec) given (g ∷ []) ∙ ap (λ b. filter (λ (x : Grant). x.rec == rec) given ++ cond b (g ∷ []) []) here))
       (subst (AreFolded past (filter (λ (x : Grant). x.rec == rec) given ++ g ∷ []) (start_of table rec) (base_of table rec)) (sym (there rec (eqb-true g.rec rec here))) (folded_last past g _ _ _ _ (follows rec)))
@@ -87,7 +87,7 @@ still_unfolded past (m ∷ rest) all = by_test (is_root m.at)
 -- the table with one record's tuple and locks written
 pub settles : (past : Past) (given : List Grant) (table : Table) (rec : ℕ) (base : Tuple) (held : List Holder) → rec < length table.base → rec < length table.held
     → ((gs : List Grant) → AreFolded past gs (start_of table rec) (base_of table rec) (holders_of table rec) → AreFolded past gs (start_of table rec) base held)
-    → Follows past given table → Follows past given (record table { base = slice_set table.base rec base; held = slice_set table.held rec held })
+    → TableFollows past given table → TableFollows past given (record table { base = slice_set table.base rec base; held = slice_set table.held rec held })
 settles past given table rec base held within_base within_held turns follows = λ r. elim (cases_Bool (rec == r)) [
   | inl here ↦ at_rec r (eqb-true rec r here)
   | inr other ↦ elsewhere r (λ is. true≢false (sym (eq-eqb rec r is) ∙ other))

@@ -15,7 +15,7 @@ use Rattle.qc_event.proofs.Lineage.{alive_above}
 use Rattle.qc_moss.specs.declared.locks.Test.TheVariants.{Free, Held}
 use Rattle.qc_moss.specs.declared.consulting.Verdict.TheVariants as verdicts
 use Rattle.qc_moss.specs.Consulting.{verdict, blocker, tuple_after, grant_of}
-use Rattle.qc_moss.specs.Follows.{Follows, IsSettled}
+use Rattle.qc_moss.specs.Follows.{TableFollows, IsSettled}
 use Rattle.qc_moss.specs.Locks.{Table, test_of, test_by, start_of}
 use Rattle.qc_moss.proofs.Answering.{free, tuple}
 
@@ -29,7 +29,7 @@ free_is (Some x) h = absurd cc
 
 -- the table follows a copy's grants from the start tuples of one that was, and the record asked for is settled
 pub record IsReady (past : Past) (was : Table) (given : List Grant) (ask : Ask) (table : Table) : Type 0 where
-  pub follows : Follows past given table
+  pub follows : TableFollows past given table
   pub settled : IsSettled past table ask.rec
   pub same_start : table.start ≡ was.start
 

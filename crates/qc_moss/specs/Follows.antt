@@ -37,8 +37,8 @@ pub data AreFolded (past : Past) (given : List Grant) (start base : Tuple) (held
 
 -- A table follows a history with the grants of its copy: the locks of each record are those of its grants.
 -- What the history settled may be settled there or not.
-abbrev pub Follows : Past → List Grant → Table → Type 0
-Follows past given table = (rec : ℕ) → AreFolded past (filter (λ (g : Grant). g.rec == rec) given) (start_of table rec) (base_of table rec) (holders_of table rec)
+abbrev pub TableFollows : Past → List Grant → Table → Type 0
+TableFollows past given table = (rec : ℕ) → AreFolded past (filter (λ (g : Grant). g.rec == rec) given) (start_of table rec) (base_of table rec) (holders_of table rec)
 
 -- Nothing is left to settle of who holds a lock: it is not dead, and not committed unless it is the root.
 pub record IsStill (past : Past) (at : Name) : Type 0 where

@@ -24,8 +24,8 @@ pub record Table : Type 0 where
   pub reserved : Bool
 
 -- a list of locks that takes one more without memory
-abbrev pub HasRoom : Vec Holder Global → Type 0
-HasRoom held = vec_len held < vec_capacity held
+abbrev pub HoldersHaveRoom : Vec Holder Global → Type 0
+HoldersHaveRoom held = vec_len held < vec_capacity held
 
 -- the lists in vectors
 abbrev pub lists : List (Vec Holder Global) → List (List Holder)

@@ -6,7 +6,7 @@ ghost use Rattle.qc_event.specs.History.{Past};
 ghost use Rattle.qc_config.specs.declared.tuple.Tuple.{Tuple};
 ghost use Rattle.qc_event.specs.declared.event.Grant.{Grant};
 ghost use Rattle.qc_moss.specs.Consulting as words;
-ghost use Rattle.qc_moss.specs.Follows.{Follows};
+ghost use Rattle.qc_moss.specs.Follows.{TableFollows};
 ghost use Rattle.qc_moss.specs.Locks.{unheld};
 ghost use Rattle.qc_moss.specs.declared.consulting.Verdict.TheVariants.{Free};
 
@@ -38,9 +38,9 @@ pub fn consult_locks<S: Source>(locks: &mut Locks, ask: &Ask, source: &S) -> Ver
     ensures start { locks.new.start ≡ locks.old.start }
     ensures reserved { locks.new.reserved ≡ locks.old.reserved }
     ensures follows { (past : Past) (given : List Grant) → S.tells source.now past
-        → Follows past given locks.old → Follows past given locks.new }
+        → TableFollows past given locks.old → TableFollows past given locks.new }
     ensures verdict { (past : Past) (given : List Grant) → S.tells source.now past
-        → Follows past given locks.old
+        → TableFollows past given locks.old
         → result ≡ words.verdict past locks.old given ask.now }
     ensures admits { (tuple : Tuple) → result ≡ Free tuple
         → words.grant_of locks.new ask.now ≡ grant_with ask.now tuple }
@@ -62,7 +62,7 @@ pub fn replay_locks(alloc: Global, start: Vec<Tuple>, grants: &[Grant]) -> Resul
     ensures locks { IfOk result (λ l. l ≡ words.all_granted (unheld start.items) grants.now) }
     ensures start { IfOk result (λ l. l.start ≡ start.items) }
     ensures reserved { IfOk result (λ l. l.reserved ≡ false) }
-    ensures follows { IfOk result (λ l. (past : Past) → Follows past grants.now l) }
+    ensures follows { IfOk result (λ l. (past : Past) → TableFollows past grants.now l) }
 {
     let mut locks = Locks::new(alloc, start)?;
     for grant in grants {

@@ -9,7 +9,7 @@ ghost use Rattle.qc_event.specs.Seen.{is_in_way, is_live_at, changed_by};
 ghost use Rattle.qc_event.specs.declared.event.Entry.{Entry};
 ghost use Rattle.qc_event.specs.declared.event.Grant.{Grant};
 ghost use Rattle.qc_event.specs.Dead.{dead};
-ghost use Rattle.qc_moss.specs.Follows.{Follows, IsSettled};
+ghost use Rattle.qc_moss.specs.Follows.{TableFollows, IsSettled};
 ghost use Rattle.qc_moss.specs.Locks.{Table, unheld, test_of, test_by, start_of, tuple_of, granted_to};
 
 /// A lock table that follows a history, and in which nothing of a record is left to settle, answers for this
@@ -20,20 +20,20 @@ ghost use Rattle.qc_moss.specs.Locks.{Table, unheld, test_of, test_by, start_of,
 pub fn locks_follow_histories()
     ensures free { (past : Past) (given : List Grant) (table : Table) (access : Name)
         (rec : ℕ) (op : Op)
-        → Follows past given table → IsSettled past table rec → dead past [] ≡ None
+        → TableFollows past given table → IsSettled past table rec → dead past [] ≡ None
         → test_of table access rec (not (is_get op))
         ≡ test_by (option_map (λ (g : Grant). g.access)
         (find (is_in_way past rec op access) given)) }
     ensures tuple { (past : Past) (given : List Grant) (table : Table) (rec : ℕ)
-        → Follows past given table
+        → TableFollows past given table
         → IsSettled past table rec → dead past [] ≡ None
         → tuple_of table rec ≡ changed_by (start_of table rec)
         (filter (is_live_at past rec) given) }
-    ensures starts { (past : Past) (start : List Tuple) → Follows past [] (unheld start) }
+    ensures starts { (past : Past) (start : List Tuple) → TableFollows past [] (unheld start) }
     ensures grows { (past : Past) (e : Entry) (given : List Grant) (table : Table)
-        → Follows past given table
-        → Follows (e ∷ past) given table }
+        → TableFollows past given table
+        → TableFollows (e ∷ past) given table }
     ensures granted { (past : Past) (given : List Grant) (table : Table) (g : Grant)
-        → g.rec < length table.held → Follows past given table
-        → Follows past (given ++ g ∷ []) (granted_to table g.access g.rec g.op) }
+        → g.rec < length table.held → TableFollows past given table
+        → TableFollows past (given ++ g ∷ []) (granted_to table g.access g.rec g.op) }
 {}

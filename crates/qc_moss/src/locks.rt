@@ -4,7 +4,7 @@ ghost use Rattle.qc_names.specs.Name.{front};
 ghost use Rattle.qc_config.specs.Tuple.{after};
 ghost use Rattle.qc_event.specs.History.{Past};
 ghost use Rattle.qc_event.specs.declared.event.Grant.{Grant};
-ghost use Rattle.qc_moss.specs.Follows.{Follows, IsSettled};
+ghost use Rattle.qc_moss.specs.Follows.{TableFollows, IsSettled};
 ghost use Rattle.qc_moss.specs.Locks as locks;
 ghost use Rattle.qc_moss.specs.Locks.{StaysAt};
 
@@ -40,7 +40,7 @@ pub struct Locks {
 
 impl Model for Locks {
     ghost use Rattle.std.specs.Prelude.{◌≡◌, true, All, vec_len};
-    ghost use Rattle.qc_moss.specs.Locks.{Table, HasRoom, lists};
+    ghost use Rattle.qc_moss.specs.Locks.{Table, HoldersHaveRoom, lists};
 
     ghost Value = { Table };
 
@@ -49,7 +49,7 @@ impl Model for Locks {
     ghost invariant = { λ l. record {
       same_length : vec_len l.held ≡ vec_len l.start;
       same_base : vec_len l.base ≡ vec_len l.start;
-      has_room : l.reserved ≡ true → All HasRoom l.held.items;
+      has_room : l.reserved ≡ true → All HoldersHaveRoom l.held.items;
     } };
 }
 
@@ -76,7 +76,7 @@ fn all_effects(base: &Tuple, held: &[Holder]) -> Tuple
 
 fn make_room(held: &mut [Vec<Holder>]) -> Result<(), AllocError>
     ensures holders { locks.lists held.new ≡ locks.lists held.old }
-    ensures room { OnOk result (All locks.HasRoom held.new) }
+    ensures room { OnOk result (All locks.HoldersHaveRoom held.new) }
 {
     for list in held.iter_mut() {
         list.reserve(1)?;
@@ -174,7 +174,7 @@ impl Locks {
         ensures lists { length self.new.held ≡ length self.old.held }
         ensures others { (other : ℕ) → (other ≡ rec → ⊥) → StaysAt self.old self.new other }
         ensures follows { (past : Past) (given : List Grant) → S.tells source.now past
-            → Follows past given self.old → Follows past given self.new }
+            → TableFollows past given self.old → TableFollows past given self.new }
         ensures settled { (past : Past) → S.tells source.now past → IsSettled past self.new rec }
         ensures short { locks.is_short (locks.holders_of self.new rec) ≡ true }
         ensures folded { locks.is_first_root (locks.holders_of self.new rec) ≡ false }

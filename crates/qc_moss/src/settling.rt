@@ -85,7 +85,7 @@ pub fn settle_list<S: Source>(held: &mut Vec<Holder>, source: &S)
     ensures settled { (past : Past) → S.tells source.now past
         → All (HoldsStill past) held.new.items }
     ensures short { locks.is_short held.new.items ≡ true }
-    ensures room { locks.HasRoom held.old → locks.HasRoom held.new }
+    ensures room { locks.HoldersHaveRoom held.old → locks.HoldersHaveRoom held.new }
 {
     let mut kept = 0;
     for i in 0..held.len() {
@@ -101,7 +101,7 @@ pub fn settle_list<S: Source>(held: &mut Vec<Holder>, source: &S)
 pub fn fold_first(held: &mut Vec<Holder>, base: &mut Tuple)
     ensures rest { held.new.items ≡ locks.unfolded held.old.items }
     ensures base { base.new ≡ locks.folded_into base.old held.old.items }
-    ensures room { locks.HasRoom held.old → locks.HasRoom held.new }
+    ensures room { locks.HoldersHaveRoom held.old → locks.HoldersHaveRoom held.new }
 {
     if held.is_empty() || !held[0].at.is_empty() {
         return;

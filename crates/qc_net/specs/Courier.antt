@@ -17,8 +17,8 @@ abbrev pub held_of : {L : Type 0} → Courier L → List Ask
 held_of courier = courier.held.items
 
 -- it has room to hold one more request
-abbrev pub HasRoom : {L : Type 0} → Courier L → Type 0
-HasRoom courier = vec_len courier.held < vec_capacity courier.held
+abbrev pub CourierHasRoom : {L : Type 0} → Courier L → Type 0
+CourierHasRoom courier = vec_len courier.held < vec_capacity courier.held
 
 -- some answer was given to a request
 abbrev pub WasAnswered : (Ask → Answered → Type 0) → Ask → Type 0
@@ -47,9 +47,9 @@ IsAnswered Gave ask (Answer answer) = Gave ask answer
 IsAnswered Gave ask _ = Unit {0}
 
 -- that there is no answer has a cause
-abbrev pub HasCause : Type 0 → Sent → Type 0
-HasCause Trouble (Answer answer) = Unit {0}
-HasCause Trouble _ = Trouble
+abbrev pub SentHasCause : Type 0 → Sent → Type 0
+SentHasCause Trouble (Answer answer) = Unit {0}
+SentHasCause Trouble _ = Trouble
 
 -- what a due step leaves of what is held, by its answer: the request of the place told is gone, and was answered
 abbrev pub Stepped : (Ask → Answered → Type 0) → List Ask → List Ask → Option (List Given) → Option (List Given) → Option (ℕ × Answered) → Type 0

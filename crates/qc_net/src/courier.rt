@@ -32,7 +32,7 @@ pub struct Courier<L> {
 }
 
 impl<L: Link> Courier<L> {
-    ghost use Rattle.qc_net.specs.Courier.{link_of, held_of, HasRoom, IsLeft, IsHeldBehind, HeldAfter, IsAnswered, HasCause, Stepped};
+    ghost use Rattle.qc_net.specs.Courier.{link_of, held_of, CourierHasRoom, IsLeft, IsHeldBehind, HeldAfter, IsAnswered, SentHasCause, Stepped};
 
     /// A courier that holds nothing.
     pub fn new(alloc: Global, link: L) -> Self
@@ -66,7 +66,7 @@ impl<L: Link> Courier<L> {
         ensures held_err { OnErr result (held_of self.new ≡ held_of self.old) }
         ensures made_err { OnErr result ((P.view port.new).made ≡ (P.view port.old).made) }
         ensures short { IfErr result (IsWant (P.view port.new).full) }
-        ensures room { HasRoom self.old → HasRoom self.new }
+        ensures room { CourierHasRoom self.old → CourierHasRoom self.new }
         ensures place { IfSome (L.view (link_of self.old)).plan
             (λ plan. IfOk result (λ step. option_map (λ s. s.0) step ≡ due_in plan
             (length (held_of self.old)))) }
@@ -92,7 +92,7 @@ impl<L: Link> Courier<L> {
     fn hold<P: Port>(&mut self, ask: &Ask, port: &mut P, patience: u32) -> Result<Sent, Short>
         requires ask { (P.view port.old).may ask.now }
         requires held { All (P.view port.old).may (held_of self.old) }
-        requires room { HasRoom self.old }
+        requires room { CourierHasRoom self.old }
         ensures told { IfSome (L.view (link_of self.old)).plan
             (λ plan. IfOk result (IsSending (waiting patience
             (record { plan = plan; held = held_of self.old ++ ask.now ∷ []; delivered = [] }))
@@ -134,7 +134,7 @@ impl<L: Link> Courier<L> {
     ) -> Result<Sent, Short>
         requires ask { (P.view port.old).may ask.now }
         requires held { All (P.view port.old).may (held_of self.old) }
-        requires room { HasRoom self.old }
+        requires room { CourierHasRoom self.old }
         ensures told { IfSome (L.view (link_of self.old)).plan
             (λ plan. IfOk result (IsSending (meeting fate ask.now patience
             (record { plan = plan; held = held_of self.old; delivered = [] }))
@@ -145,7 +145,7 @@ impl<L: Link> Courier<L> {
             (held_of self.new) result }
         ensures short { IfErr result (IsWant (P.view port.new).full) }
         ensures allowed { All (P.view port.new).may (held_of self.new) }
-        ensures cause { IfOk result (HasCause (IsTrue (is_trouble fate))) }
+        ensures cause { IfOk result (SentHasCause (IsTrue (is_trouble fate))) }
         ensures may { (other : Ask) → (P.view port.old).may other → (P.view port.new).may other }
         ensures gave { (other : Ask) (answer : Answered) → (P.view port.old).gave other answer
             → (P.view port.new).gave other answer }
@@ -188,7 +188,7 @@ impl<L: Link> Courier<L> {
         ensures memory { IsErrOf result Short.Memory → (P.view port.new).full
             → (P.view port.old).full }
         ensures allowed { All (P.view port.new).may (held_of self.new) }
-        ensures cause { IfOk result (HasCause
+        ensures cause { IfOk result (SentHasCause
             (Rose (L.view (link_of self.old)).troubles (L.view (link_of self.new)).troubles)) }
         ensures counts { IfSome (L.view (link_of self.old)).plan
             (λ plan. OnOk result (Counts (next_fate plan.coming)

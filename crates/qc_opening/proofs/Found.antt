@@ -3,7 +3,7 @@ use Rattle.std.proofs.Common.{◌≡◌, ℕ, zero, suc, ◌+◌, ◌<◌, ◌�
 use Rattle.std.specs.Prelude.{All, Option, None, Some, is_some, slice_get, slice_index_or}
 use Rattle.std.proofs.lemmas.List.{length-map}
 use Rattle.qc_config.specs.declared.tuple.Tuple.{Tuple}
-use Rattle.qc_disk.specs.Disk.{View}
+use Rattle.qc_disk.specs.Disk.{DiskView}
 use Rattle.qc_disk.specs.declared.disk.Disk.{Ghosts}
 use Rattle.qc_codec.specs.Bodies as body
 use Rattle.qc_codec.specs.Copy.{grant_form}
@@ -32,7 +32,7 @@ use Rattle.qc_opening.specs.Stored.{WasMounted}
 use Rattle.qc_opening.proofs.Places.{all_at, at_place, get_next, mapped_at, pair_at}
 
 -- a disk leaves what it leaves
-alike_itself : (disk : View) → LeftAlike disk disk
+alike_itself : (disk : DiskView) → LeftAlike disk disk
 alike_itself disk = λ t c early. (λ left. left, λ left. left)
 
 module _ {D : Type 0} {g : Ghosts D} where
@@ -170,7 +170,7 @@ module _ {D : Type 0} {g : Ghosts D} where
         proper = proper;
         small = small;
         bytes = bytes;
-        ledger = subst (λ o. book.Mounts table store.limit o (book.records_of parts.book) parts.past parts.epoch) (sym ledger_told) store.mounted.ledger_is.mounts;
+        ledger = subst (λ o. book.MountsLedger table store.limit o (book.records_of parts.book) parts.past parts.epoch) (sym ledger_told) store.mounted.ledger_is.mounts;
         copies = λ i there. copies i there;
         as_many = as_many;
         starts = λ i there. starts i there;
@@ -182,12 +182,12 @@ module _ {D : Type 0} {g : Ghosts D} where
               let (m, is) = at_place parts.copies.items i (omega (arith, low, all)) in
               subst AreBytes (sym (mapped_at copy.records_of parts.copies.items i m [] is)) (all_at (λ x. AreBytes (copy.records_of x)) parts.copies.items i m copies_bytes is)
 
-          copies : (i : ℕ) → i < table.copies → copy.Mounts i table parts.past store.limit (told_by told (i + 1)) (bodies_found parts.book parts.copies.items (i + 1))
+          copies : (i : ℕ) → i < table.copies → copy.MountsCopy i table parts.past store.limit (told_by told (i + 1)) (bodies_found parts.book parts.copies.items (i + 1))
           copies i there =
               let (m, is) = at_place parts.copies.items i (omega (arith, there, all)) in
               let at = copy_at i m is in
-              subst (λ o. copy.Mounts i table parts.past store.limit o (bodies_found parts.book parts.copies.items (i + 1))) (sym at.disk_told)
-              (subst (λ bs. copy.Mounts i table parts.past store.limit (g.view at.disk).content bs) (sym at.bodies) at.is_copy.mounts)
+              subst (λ o. copy.MountsCopy i table parts.past store.limit o (bodies_found parts.book parts.copies.items (i + 1))) (sym at.disk_told)
+              (subst (λ bs. copy.MountsCopy i table parts.past store.limit (g.view at.disk).content bs) (sym at.bodies) at.is_copy.mounts)
 
           starts : (i : ℕ) → i < table.copies
               → slice_index_or base i [] ≡ restored_row parts.past.tops (length table.records) (start_tuple (base_of table) i) (readings (grant_form table) (bodies_found parts.book parts.copies.items (i + 1)))

@@ -3,7 +3,7 @@ use Rattle.std.proofs.Common.{◌≡◌, ℕ, zero, suc, ◌+◌, ◌≤◌, tru
 use Rattle.std.specs.Prelude.{Option, Some, is_some, slice_get}
 use Rattle.std.proofs.Math.Logic.{∥∥₁_map}
 use Rattle.std.proofs.lemmas.Option.{slice_get_within}
-use Rattle.qc_disk.specs.Disk.{View}
+use Rattle.qc_disk.specs.Disk.{DiskView}
 use Rattle.qc_event.specs.Tables.{setting_of}
 use Rattle.qc_event.specs.declared.table.Table.{Table}
 use Rattle.qc_system.specs.Grown.{GrownFrom}
@@ -11,7 +11,7 @@ use Rattle.qc_interp.proofs.Listing.Places.{some_same}
 use Rattle.qc_opening.specs.Stored.{disks_of, past_of, AreOfRun, HasGrown, HasKept, HaveGrown}
 use Rattle.qc_opening.specs.declared.stored.Stored.{Stored}
 
-module _ {D : Type 0} (view : D → View) (table : Table) (most : ℕ) (told : ℕ → Option (List ℕ)) (stored : Stored D) (kept : HasKept view table most told stored) where
+module _ {D : Type 0} (view : D → DiskView) (table : Table) (most : ℕ) (told : ℕ → Option (List ℕ)) (stored : Stored D) (kept : HasKept view table most told stored) where
   abbrev May : ℕ → List (List ℕ) → Type 0
   May number = AreOfRun (setting_of table stored.ended.start) number (past_of stored)
 

@@ -2,7 +2,7 @@
 use Rattle.std.proofs.Common.{◌≡◌, ℕ, zero, suc, ◌+◌, ◌≤◌, List, length, refl, sym, ◌∙◌, subst, arith}
 use Rattle.std.specs.Prelude.{Some, slice_get}
 use Rattle.std.proofs.lemmas.Option.{slice_get_within}
-use Rattle.qc_disk.specs.Disk.{View}
+use Rattle.qc_disk.specs.Disk.{DiskView}
 use Rattle.qc_event.specs.Base.{Setting}
 use Rattle.qc_event.specs.History.{Past}
 use Rattle.qc_event.specs.Seats.{copy_seat, ledger_seat}
@@ -17,7 +17,7 @@ use Rattle.qc_opening.specs.Stored.{HavePaid}
 from_fewer : (fewer first count now : ℕ) → fewer ≤ first → Pays first count now → Pays fewer count now
 from_fewer fewer first count now few pays = omega (arith, few, pays)
 
-module _ {D : Type 0} (view : D → View) (setting : Setting) (found : Findings) (counts : ℕ → ℕ) (disks : List D) (past : Past) (all : AllKeep setting found view disks past)
+module _ {D : Type 0} (view : D → DiskView) (setting : Setting) (found : Findings) (counts : ℕ → ℕ) (disks : List D) (past : Past) (all : AllKeep setting found view disks past)
     (later : (number : ℕ) → number ≤ length found.base → counts number ≤ (found.first number).faults) where
   -- the disk at a place, by its seat
   paid_at : (number place seat : ℕ) (disk other : D) → place ≡ number → seat ≡ number + 1 → number ≤ length found.base → slice_get disks place ≡ Some other → Pays (found.first place).faults (downs (entries_of seat past)) (view other).faults

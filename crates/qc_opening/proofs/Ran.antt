@@ -2,7 +2,7 @@
 use Rattle.std.proofs.Common.{◌≡◌, ℕ, ◌≤◌, List, length, sym, subst, arith}
 use Rattle.std.specs.Prelude.{Option, is_some, OnOk, IsErrOf}
 use Rattle.qc_config.specs.declared.tuple.Tuple.{Tuple}
-use Rattle.qc_disk.specs.Disk.{View}
+use Rattle.qc_disk.specs.Disk.{DiskView}
 use Rattle.qc_event.specs.declared.short.Short.TheVariants.{Room}
 use Rattle.qc_event.specs.History.{limit}
 use Rattle.qc_event.specs.Legal.{Legal}
@@ -15,7 +15,7 @@ use Rattle.qc_opening.specs.Stored.{past_of, HasRun, WasMounted}
 use Rattle.qc_opening.specs.declared.stored.Stored.{Stored}
 use Rattle.qc_opening.proofs.Paid.{paid}
 
-module _ {D : Type 0} (view : D → View) (plan : ScriptPlan) (most : ℕ) (told : ℕ → Option (List ℕ)) (counts : ℕ → ℕ) (stored : Stored D) (base : List (List Tuple)) (epoch : ℕ) (records : ℕ → List (List ℕ)) (firsts : ℕ → D)
+module _ {D : Type 0} (view : D → DiskView) (plan : ScriptPlan) (most : ℕ) (told : ℕ → Option (List ℕ)) (counts : ℕ → ℕ) (stored : Stored D) (base : List (List Tuple)) (epoch : ℕ) (records : ℕ → List (List ℕ)) (firsts : ℕ → D)
     (start : stored.ended.start ≡ base) (same : epoch ≡ stored.epoch) where
   pub has_run : IsMounted plan.table told records stored.epoch base → ((number : ℕ) → number ≤ plan.table.copies → WasMounted view (firsts number) (records number) (told number))
       → ((number : ℕ) → number ≤ plan.table.copies → counts number ≤ (view (firsts number)).faults) → Legal (setting_of plan.table base) (past_of stored) → length stored.ended.trail ≤ limit

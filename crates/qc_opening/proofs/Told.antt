@@ -6,7 +6,7 @@ use Rattle.std.proofs.Math.Logic.{∥∥₁_map}
 use Rattle.std.proofs.lemmas.List.{length-reverse}
 use Rattle.std.proofs.lemmas.Option.{slice_get_within}
 use Rattle.qc_config.specs.declared.tuple.Tuple.{Tuple}
-use Rattle.qc_disk.specs.Disk.{View}
+use Rattle.qc_disk.specs.Disk.{DiskView}
 use Rattle.qc_disk.specs.Shop.{Tells}
 use Rattle.qc_event.specs.declared.table.Table.{Table}
 use Rattle.qc_event.specs.History.{limit}
@@ -69,17 +69,17 @@ mounted_otherwise table other told records epoch base tells m = record {
 -- WHAT A SHOP OFFERED
 
 -- from a number on
-offered_from : {D : Type 0} (view : D → View) (offers : ℕ → Option (List ℕ)) (number : ℕ) (disks : List D) → AreOffered view offers number disks → (i : ℕ) → i < length disks → Tells (offers (number + i)) (told_by (map (λ d. (view d).content) disks) i)
+offered_from : {D : Type 0} (view : D → DiskView) (offers : ℕ → Option (List ℕ)) (number : ℕ) (disks : List D) → AreOffered view offers number disks → (i : ℕ) → i < length disks → Tells (offers (number + i)) (told_by (map (λ d. (view d).content) disks) i)
 offered_from view offers number [] offered i low = absurd (omega (arith, low))
 offered_from view offers number (d ∷ disks) offered zero low = subst (λ n. Tells (offers n) (view d).content) (omega arith) offered.0
 offered_from view offers number (d ∷ disks) offered (suc i) low =
     subst (λ n. Tells (offers n) (told_by (map (λ x. (view x).content) disks) i)) (omega arith) (offered_from view offers (number + 1) disks offered.1 i (omega (arith, low)))
 
-pub tell_offered : {D : Type 0} (view : D → View) (table : Table) (offers : ℕ → Option (List ℕ)) (disks : List D) → AreOffered view offers 0 disks → length disks ≡ table.copies + 1 → TellAsMuch table offers (told_by (map (λ d. (view d).content) disks))
+pub tell_offered : {D : Type 0} (view : D → DiskView) (table : Table) (offers : ℕ → Option (List ℕ)) (disks : List D) → AreOffered view offers 0 disks → length disks ≡ table.copies + 1 → TellAsMuch table offers (told_by (map (λ d. (view d).content) disks))
 tell_offered view table offers disks offered all number low = subst (λ n. Tells (offers n) (told_by (map (λ d. (view d).content) disks) number)) (omega arith) (offered_from view offers 0 disks offered number (omega (arith, low, all)))
 
 -- as often as it told, from a number on
-counted_from : {D : Type 0} (view : D → View) (counts : ℕ → ℕ) (number : ℕ) (disks : List D) → AreCounted view counts number disks → (i : ℕ) → i < length disks → counted_by (map (λ d. (view d).faults) disks) i ≡ counts (number + i)
+counted_from : {D : Type 0} (view : D → DiskView) (counts : ℕ → ℕ) (number : ℕ) (disks : List D) → AreCounted view counts number disks → (i : ℕ) → i < length disks → counted_by (map (λ d. (view d).faults) disks) i ≡ counts (number + i)
 counted_from view counts number [] counted i low = absurd (omega (arith, low))
 counted_from view counts number (d ∷ disks) counted zero low = subst (λ n. (view d).faults ≡ counts n) (omega arith) counted.0
 counted_from view counts number (d ∷ disks) counted (suc i) low =
@@ -98,7 +98,7 @@ tells_image offer told image is tells = subst (λ o. Tells o told) is tells
 
 -- THE MOUNTING
 
-module _ {D : Type 0} (view : D → View) (plan : ScriptPlan) (most : ℕ) (told offers : ℕ → Option (List ℕ)) (counts : ℕ → ℕ) (tells : TellAsMuch plan.table offers told) (stored : Stored D) (run : HasRun view plan most told counts stored) where
+module _ {D : Type 0} (view : D → DiskView) (plan : ScriptPlan) (most : ℕ) (told offers : ℕ → Option (List ℕ)) (counts : ℕ → ℕ) (tells : TellAsMuch plan.table offers told) (stored : Stored D) (run : HasRun view plan most told counts stored) where
   mounted : IsMounted plan.table offers run.kept.records stored.epoch stored.ended.start
   mounted = mounted_otherwise plan.table offers told run.kept.records stored.epoch stored.ended.start tells run.kept.mounted
 
@@ -196,7 +196,7 @@ module _ {D : Type 0} (view : D → View) (plan : ScriptPlan) (most : ℕ) (told
       subst (λ d. HadNoRoom (listed (past_of stored)) (view d).size most (entries_of ledger_seat (past_of stored))) (some_same l.disk disk (sym l.there ∙ is)) full
 
 -- what disks have counted since they were given, they have since the shop told of them
-pub paid : {D : Type 0} (view : D → View) (plan : ScriptPlan) (most : ℕ) (told : ℕ → Option (List ℕ)) (counts : ℕ → ℕ) (given : List D) (stored : Stored D) → AreCounted view counts 0 given → length given ≡ plan.table.copies + 1
+pub paid : {D : Type 0} (view : D → DiskView) (plan : ScriptPlan) (most : ℕ) (told : ℕ → Option (List ℕ)) (counts : ℕ → ℕ) (given : List D) (stored : Stored D) → AreCounted view counts 0 given → length given ≡ plan.table.copies + 1
     → HasRun view plan most told (counted_by (map (λ d. (view d).faults) given)) stored → HavePaid view counts (disks_of stored) (past_of stored)
 paid view plan most told counts given stored counted all run number disk is =
     let within = slice_get_within stored.ended.disks.items number disk is in
@@ -205,7 +205,7 @@ paid view plan most told counts given stored counted all run number disk is =
     subst (λ n. Pays n (downs (entries_of (number + 1) (past_of stored))) (view disk).faults) same (run.paid number disk is)
 
 -- whatever the answer, all disks are handed back
-pub all_returned : {D : Type 0} (view : D → View) (plan : ScriptPlan) (most : ℕ) (told : ℕ → Option (List ℕ)) (counts : ℕ → ℕ) (disks : List D) (answer : Result (Stored D) (MountNo D)) → length disks ≡ plan.table.copies + 1 → IfOk answer (HasRun view plan most told counts)
+pub all_returned : {D : Type 0} (view : D → DiskView) (plan : ScriptPlan) (most : ℕ) (told : ℕ → Option (List ℕ)) (counts : ℕ → ℕ) (disks : List D) (answer : Result (Stored D) (MountNo D)) → length disks ≡ plan.table.copies + 1 → IfOk answer (HasRun view plan most told counts)
     → IfErr answer (λ refused. AreLeft view plan.table (reason_in refused) 0 disks (disks_in refused)) → returned answer ≡ plan.table.copies + 1
 all_returned view plan most told counts disks (Ok stored) all ran left = omega (arith, ran.kept.kept.many, ran.kept.mounted.as_many)
 all_returned view plan most told counts disks (Err refused) all ran left = left_length view plan.table refused disks (disks_in refused) left ∙ all

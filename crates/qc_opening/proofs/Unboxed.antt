@@ -2,7 +2,7 @@
 use Rattle.std.proofs.Common.{◌≡◌, ℕ, ◌+◌, List, [], ◌∷◌, length, map, refl, sym, ap, ◌∙◌, subst}
 use Rattle.std.specs.Prelude.{Option}
 use Rattle.std.proofs.lemmas.List.{length-map}
-use Rattle.qc_disk.specs.Disk.{View}
+use Rattle.qc_disk.specs.Disk.{DiskView}
 use Rattle.qc_disk.specs.declared.disk.Disk.{Ghosts}
 use Rattle.qc_event.specs.declared.table.Table.{Table}
 use Rattle.qc_codec.specs.declared.image.BadImage.{BadImage}
@@ -17,8 +17,8 @@ use Rattle.qc_system.specs.declared.boxed.Boxed.{Boxed}
 use Rattle.qc_opening.specs.Boxes.{unboxed}
 use Rattle.qc_opening.specs.Parts.{IsStoreOver}
 
-module _ {D : Type 0} (view : D → View) where
-  abbrev pub boxed_view : Boxed D → View
+module _ {D : Type 0} (view : D → DiskView) where
+  abbrev pub boxed_view : Boxed D → DiskView
   boxed_view b = view b.disk.value
 
   -- what they tell
@@ -75,7 +75,7 @@ among_so least most P Q (no.Image fault disks) among also = (among.0, among.1, a
 among_so least most P Q (no.Memory disks) among also = tt
 
 -- as many disks are left as there were
-pub left_length : {B E : Type 0} (view : B → View) (table : Table) (refused : MountNo E) (old new : List B) → AreLeft view table (reason_in refused) 0 old new → length new ≡ length old
+pub left_length : {B E : Type 0} (view : B → DiskView) (table : Table) (refused : MountNo E) (old new : List B) → AreLeft view table (reason_in refused) 0 old new → length new ≡ length old
 left_length view table refused old new left = pairs_length (IsLeft view table (FailedAt (reason_in refused)) (IsBehind (reason_in refused))) 0 old new left
 
 -- a store was mounted from disks that told this, and had failed so often

@@ -1,6 +1,6 @@
 -- The disks of a store: where they come from, and what a mounting leaves of each.
 use Rattle.std.specs.Prelude.{ℕ, zero, suc, ◌≡◌, List, Option, IsSome}
-use Rattle.qc_disk.specs.Disk.{View, Grows, HasCause, LeavesOnly}
+use Rattle.qc_disk.specs.Disk.{DiskView, Grows, HasCause, LeavesOnly}
 use Rattle.qc_disk.specs.Shop.{Tells}
 use Rattle.qc_event.specs.declared.table.Table.{Table}
 use Rattle.qc_journal.specs.Image.{HasAt}
@@ -14,7 +14,7 @@ abbrev pub to_write : Table → ℕ → (List (List ℕ) → List (List ℕ))
 to_write table zero = ledger.to_write table
 to_write table (suc copy) = site.to_write copy table
 
-module _ {D : Type 0} (view : D → View) where
+module _ {D : Type 0} (view : D → DiskView) where
   -- disks from a number on tell what was offered at theirs, where that was told
   abbrev pub AreOffered : (ℕ → Option (List ℕ)) → ℕ → List D → Type 0
   AreOffered offers number disks = EachFrom (λ n disk. Tells (offers n) (view disk).content) number disks

@@ -29,14 +29,14 @@ copy_disk mounted = disk_of (copy.journal_of mounted)
 module _ {D : Type 0} {g : Ghosts D} (table : Table) where
   -- A ledger was mounted from a disk: what its records told before, and the epoch that it logged.
   pub record IsLedger (limit : ℕ) (disk : D) (mounted : Book D g) (past : Past) (epoch : ℕ) : Type 0 where
-    pub mounts : book.Mounts table limit (g.view disk).content (book.records_of mounted) past epoch
+    pub mounts : book.MountsLedger table limit (g.view disk).content (book.records_of mounted) past epoch
     pub limit_is : limit_of (book.journal_of mounted) ≡ limit
     pub keeps : IsSome (g.view disk).content → Keeps (book.journal_of mounted) (book.records_of mounted)
     pub disk_is : IsMounted g.view (ledger.to_write table) ⊥ disk (disk_of (book.journal_of mounted))
 
   -- A copy was mounted from a disk, behind a past: it starts with what its records restore.
   pub record IsCopy (past : Past) (limit number : ℕ) (disk : D) (mounted : Mounted D g) : Type 0 where
-    pub mounts : copy.Mounts number table past limit (g.view disk).content (copy.records_of mounted)
+    pub mounts : copy.MountsCopy number table past limit (g.view disk).content (copy.records_of mounted)
     pub number_is : copy.copy_of mounted ≡ number
     pub copies : copy.copies_of mounted ≡ table.copies
     pub limit_is : limit_of (copy.journal_of mounted) ≡ limit

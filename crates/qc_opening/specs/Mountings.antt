@@ -32,8 +32,8 @@ pub record IsMounted (table : Table) (told : ℕ → Option (List ℕ)) (records
   pub proper : (body.table 1).fits table
   pub small : epoch < 2 ^ 32
   pub bytes : (number : ℕ) → number ≤ table.copies → AreBytes (records number)
-  pub ledger : ledger.Mounts table (limit 0) (told 0) (records 0) past epoch
-  pub copies : (copy : ℕ) → copy < table.copies → copies.Mounts copy table past (limit (copy + 1)) (told (copy + 1)) (records (copy + 1))
+  pub ledger : ledger.MountsLedger table (limit 0) (told 0) (records 0) past epoch
+  pub copies : (copy : ℕ) → copy < table.copies → copies.MountsCopy copy table past (limit (copy + 1)) (told (copy + 1)) (records (copy + 1))
   pub as_many : length base ≡ table.copies
   pub starts : (copy : ℕ) → copy < table.copies
       → slice_index_or base copy [] ≡ restored_row past.tops (length table.records) (start_tuple (base_of table) copy) (readings (grant_form table) (records (copy + 1)))

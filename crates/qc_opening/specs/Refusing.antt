@@ -1,6 +1,6 @@
 -- Why a store is not mounted, and what then is with its disks.
 use Rattle.std.specs.Prelude.{ℕ, ◌≡◌, ◌+◌, ◌<◌, ◌≤◌, ◌⊎◌, List, length, map, Option, Some, IfSome}
-use Rattle.qc_disk.specs.Disk.{View}
+use Rattle.qc_disk.specs.Disk.{DiskView}
 use Rattle.qc_event.specs.declared.table.Table.{Table}
 use Rattle.qc_codec.specs.declared.image.BadImage.{BadImage}
 use Rattle.qc_codec.specs.declared.image.ImageFault.{ImageFault}
@@ -64,7 +64,7 @@ IsReasonAmong least most P (Disk which) = (least ≤ which) × (which ≤ most)
 IsReasonAmong least most P (Image bad) = (least ≤ bad.disk) × (bad.disk ≤ most) × P bad
 IsReasonAmong least most P Memory = Unit {0}
 
-module _ {D : Type 0} (view : D → View) where
+module _ {D : Type 0} (view : D → DiskView) where
   -- disks are left by a mounting that was refused for this reason
   abbrev pub AreLeft : Table → Reason → ℕ → List D → List D → Type 0
   AreLeft table reason number old new = PairsFrom (IsLeft view table (FailedAt reason) (IsBehind reason)) number old new

@@ -1,7 +1,7 @@
 -- What a session left of a store, and what its disks have to do with its history.
 use Rattle.std.specs.Prelude.{ℕ, zero, suc, true, ◌≡◌, ◌+◌, ◌<◌, ◌≤◌, ◌^◌, List, length, reverse, Option, Some, IsSome, is_some, OnOk, IsErrOf, Result, Ok, Err, slice_get}
 use Rattle.qc_config.specs.declared.tuple.Tuple.{Tuple}
-use Rattle.qc_disk.specs.Disk.{View}
+use Rattle.qc_disk.specs.Disk.{DiskView}
 use Rattle.qc_event.specs.declared.short.Short.TheVariants.{Room}
 use Rattle.qc_event.specs.declared.table.Table.{Table}
 use Rattle.qc_event.specs.Base.{Setting}
@@ -47,7 +47,7 @@ abbrev pub AreOfRun : Setting → ℕ → Past → List (List ℕ) → Type 0
 AreOfRun setting zero past = AreTopsBy (listed past) past
 AreOfRun setting (suc copy) past = AreGrantsBy setting copy past
 
-module _ {D : Type 0} (view : D → View) where
+module _ {D : Type 0} (view : D → DiskView) where
   -- images are of disks, one of each in their order: each is what a crash may leave
   abbrev pub AreImages : List D → List (List ℕ) → Type 0
   AreImages disks images = PairsFrom (λ number disk image. (view disk).may_leave image) 0 disks images

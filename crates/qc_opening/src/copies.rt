@@ -2,7 +2,7 @@
 ghost use Rattle.std.specs.Prelude.{ℕ, ◌≡◌, ◌<◌, ◌≤◌, ◌+◌, ◌++◌, List, [], length, map, IfOk, IfErr, IfSome};
 ghost use Rattle.qc_codec.specs.Bodies as body;
 ghost use Rattle.qc_ledger.specs.Image.{IsFirstFault};
-ghost use Rattle.qc_site.specs.Image.{to_write, IsFault};
+ghost use Rattle.qc_site.specs.Image.{to_write, IsCopyFault};
 ghost use Rattle.qc_opening.specs.Disks.{IsMounted};
 ghost use Rattle.qc_opening.specs.Images.{IsCopiesFault};
 ghost use Rattle.qc_opening.specs.Mounted.{copy_disk, AreCopies, IsCopy};
@@ -37,7 +37,7 @@ fn mount_copy<D: Disk>(
     ensures refused { IfErr result (λ reason. GoesBack (λ before after.
         IsMounted D.view (to_write copy table.now) (FailedAt reason (copy + 1)) before after
         × IsReasonAt (copy + 1) (λ fault. IfSome (D.view before).content
-        (IsFirstFault (IsFault copy table.now past.now limit) fault)) reason)
+        (IsFirstFault (IsCopyFault copy table.now past.now limit) fault)) reason)
         (waiting_in waiting.old) (waiting_in waiting.new)) }
     ensures room { room_in waiting.new ≡ room_in waiting.old }
 {

@@ -1,7 +1,7 @@
 //! Mounting the ledger of a store.
 ghost use Rattle.std.specs.Prelude.{◌≡◌, ◌<◌, ◌≤◌, length, IfOk, IfErr, IfSome};
 ghost use Rattle.qc_codec.specs.Bodies as body;
-ghost use Rattle.qc_ledger.specs.Image.{to_write, IsFault, IsFirstFault};
+ghost use Rattle.qc_ledger.specs.Image.{to_write, IsLedgerFault, IsFirstFault};
 ghost use Rattle.qc_opening.specs.Disks.{IsMounted};
 ghost use Rattle.qc_opening.specs.Mounted.{IsLedger};
 ghost use Rattle.qc_opening.specs.Refusing.{FailedAt, IsReasonAt};
@@ -31,7 +31,7 @@ pub(crate) fn mount_ledger<D: Disk>(
     ensures refused { IfErr result (λ reason. GoesBack (λ before after.
         IsMounted D.view (to_write table.now) (FailedAt reason 0) before after
         × IsReasonAt 0 (λ fault. IfSome (D.view before).content
-        (IsFirstFault (IsFault table.now limit) fault)) reason)
+        (IsFirstFault (IsLedgerFault table.now limit) fault)) reason)
         (waiting_in waiting.old) (waiting_in waiting.new)) }
     ensures room { room_in waiting.new ≡ room_in waiting.old }
 {

@@ -14,7 +14,7 @@ counts trail entries = record {
 }
 
 -- each count may grow by one
-pub record HasRoom (tally : Tally) : Type 0 where
+pub record TallyHasRoom (tally : Tally) : Type 0 where
   pub started : tally.started < 2 ^ 64 - 1
   pub committed : tally.committed < 2 ^ 64 - 1
   pub aborted : tally.aborted < 2 ^ 64 - 1

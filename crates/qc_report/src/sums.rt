@@ -1,7 +1,7 @@
 //! What one pass over the entries of a history sums up.
 ghost use Rattle.std.specs.Prelude.{◌≡◌, ◌++◌, ◌∷◌, [], List, IfOk, OnOk};
 ghost use Rattle.qc_event.specs.declared.event.Entry.{Entry};
-ghost use Rattle.qc_report.specs.Counts.{HasRoom, counts};
+ghost use Rattle.qc_report.specs.Counts.{TallyHasRoom, counts};
 ghost use Rattle.qc_report.specs.Report as spec;
 
 use crate::history::History;
@@ -39,7 +39,7 @@ impl Sums {
         history: &History<'_>,
         entry: &Entry,
     ) -> Result<(), AllocError>
-        requires { HasRoom self.old.tally }
+        requires { TallyHasRoom self.old.tally }
         ensures ends { OnOk result (self.new.ends
             ≡ self.old.ends ++ spec.event_line table.now history.now entry.now.event) }
         ensures doubts { OnOk result

@@ -1,7 +1,7 @@
 //! How many tops there were, and whether any is in doubt.
 ghost use Rattle.std.specs.Prelude.{◌≡◌, ◌++◌, ◌∷◌, [], List, OnOk};
 ghost use Rattle.qc_event.specs.declared.event.Entry.{Entry};
-ghost use Rattle.qc_report.specs.Counts.{HasRoom, counts, tally_text};
+ghost use Rattle.qc_report.specs.Counts.{TallyHasRoom, counts, tally_text};
 ghost use Rattle.qc_report.specs.Report as spec;
 
 use crate::history::History;
@@ -104,7 +104,7 @@ impl Tally {
 
     /// Counts an entry, of which it is known whether it is a top in doubt.
     pub(crate) fn count(&mut self, entry: &Entry, is_doubt: bool)
-        requires { HasRoom self.old }
+        requires { TallyHasRoom self.old }
         ensures { (trail before : List Entry) → is_doubt ≡ spec.in_doubt trail entry.now.event
             → self.old ≡ counts trail before
             → self.new ≡ counts trail (before ++ entry.now ∷ []) }

@@ -1,8 +1,8 @@
 -- What was answered to words, by what was answered to what they ask for.
 use Rattle.std.proofs.Common.{ℕ, ◌≡◌, List, refl, sym, subst, inl, inr}
 use Rattle.std.specs.Prelude.{None, Some}
-use Rattle.qc_disk.specs.Disk.{View}
-use Rattle.qc_disk.specs.Shop.{View as Shop}
+use Rattle.qc_disk.specs.Disk.{DiskView}
+use Rattle.qc_disk.specs.Shop.{ShopView as Shop}
 use Rattle.qc_interp.specs.declared.gate.Mode.{Mode}
 use Rattle.qc_io.specs.Io.{SinkView, SourceView}
 use Rattle.qc_script.specs.MadePlan.{made_plan}
@@ -59,7 +59,7 @@ none_read words before now (status.DiskFault which) reading un = absurd un
 none_read words before now (status.Image bad) reading un = absurd un
 none_read words before now status.Room reading un = absurd un
 
-module _ {D : Type 0} (view : D → View) (words : List (List ℕ)) (source_before source_now : SourceView) (shop_before : Shop) (shop_faults : ℕ) (before now : SinkView) (ran : Ran D) where
+module _ {D : Type 0} (view : D → DiskView) (words : List (List ℕ)) (source_before source_now : SourceView) (shop_before : Shop) (shop_faults : ℕ) (before now : SinkView) (ran : Ran D) where
   abbrev ToWords : Type 0
   ToWords = IsAnswerToWords view words source_before source_now shop_before shop_faults before now ran
 

@@ -8,7 +8,7 @@ use Rattle.qc_io.specs.Io.{Rose, Appends, AppendsFront, Drops, SinkView, SourceV
 use Rattle.qc_report.specs.Report.{Text}
 use Rattle.qc_run.specs.Audit.{Finds, IsAudited, IsNoTrail, MayAudit, most_saved, status_of, verdict_text}
 use Rattle.qc_run.specs.Auditing.{AreNoTrail, Concluded, IsAuditOf, Says, WereJudged, WereLeft, WereRefused}
-use Rattle.qc_run.specs.Left.{HasAudited, IsRefusal, Wrote}
+use Rattle.qc_run.specs.Left.{HasAudited, IsRefusedRun, Wrote}
 use Rattle.qc_run.specs.Run.{IsOrMemory, NoneBegun}
 use Rattle.qc_run.specs.declared.ran.Ran.{Ran}
 use Rattle.qc_run.specs.declared.status.Status.{Status}
@@ -122,7 +122,7 @@ module _ (source now : SourceView) (bytes : List ℕ) (taken : IfSome source.lef
 -- NO BYTES
 
 -- the source failed, or there was no memory
-pub unread : {D : Type 0} (source now : SourceView) (sink sink_now : SinkView) (ran : Ran D) → Rose source.faults now.faults → IsOrMemory status.ReadFault ran.status → IsRefusal sink sink_now ran → ran.disks.items ≡ [] → HasAudited source now sink sink_now ran
+pub unread : {D : Type 0} (source now : SourceView) (sink sink_now : SinkView) (ran : Ran D) → Rose source.faults now.faults → IsOrMemory status.ReadFault ran.status → IsRefusedRun sink sink_now ran → ran.disks.items ≡ [] → HasAudited source now sink sink_now ran
 unread source now sink sink_now ran rose answered refusal no_disks = record {
   may = may answered;
   said = said answered;

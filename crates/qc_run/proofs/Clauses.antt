@@ -2,8 +2,8 @@
 use Rattle.std.proofs.Common.{ℕ, ◌≡◌, ◌≤◌, true, List, [], length, reverse, refl, sym, ap, subst, inl, inr, arith}
 use Rattle.std.specs.Prelude.{◌⊎◌, Option}
 use Rattle.qc_codec.specs.declared.image.BadImage.{BadImage}
-use Rattle.qc_disk.specs.Disk.{View}
-use Rattle.qc_disk.specs.Shop.{View as Shop}
+use Rattle.qc_disk.specs.Disk.{DiskView}
+use Rattle.qc_disk.specs.Shop.{ShopView as Shop}
 use Rattle.qc_event.specs.History.{Name, is_ready, limit}
 use Rattle.qc_event.specs.declared.event.Entry.{Entry}
 use Rattle.qc_io.specs.Io.{Rose, Keeps, SinkView, SourceView}
@@ -86,7 +86,7 @@ none_had words before now (status.Illegal at) none is = absurd is
 none_had words before now (status.Unserial at) none is = absurd is
 none_had words before now status.Room none is = absurd none.1
 
-pub unmounted_not_ran : {D : Type 0} (view : D → View) (s : ScriptPlan) (shop : Shop) (place : List ℕ) (now : ℕ) (disks : List D) (answer : Status) → IsUnmounted view s shop place now disks answer → HadSession answer → ⊥
+pub unmounted_not_ran : {D : Type 0} (view : D → DiskView) (s : ScriptPlan) (shop : Shop) (place : List ℕ) (now : ℕ) (disks : List D) (answer : Status) → IsUnmounted view s shop place now disks answer → HadSession answer → ⊥
 unmounted_not_ran view s shop place now disks status.Done un is = absurd un
 unmounted_not_ran view s shop place now disks status.InDoubt un is = absurd un
 unmounted_not_ran view s shop place now disks status.WriteFault un is = absurd un
@@ -146,7 +146,7 @@ performed_mounted (status.Illegal at) is un = absurd un
 performed_mounted (status.Unserial at) is un = absurd un
 performed_mounted status.Room is un = absurd un
 
-unmounted_had : {D : Type 0} (view : D → View) (s : ScriptPlan) (shop : Shop) (place : List ℕ) (now : ℕ) (disks : List D) (answer : Status) → IsUnmounted view s shop place now disks answer → HadNone answer → ⊥
+unmounted_had : {D : Type 0} (view : D → DiskView) (s : ScriptPlan) (shop : Shop) (place : List ℕ) (now : ℕ) (disks : List D) (answer : Status) → IsUnmounted view s shop place now disks answer → HadNone answer → ⊥
 unmounted_had view s shop place now disks status.Done un is = absurd un
 unmounted_had view s shop place now disks status.InDoubt un is = absurd un
 unmounted_had view s shop place now disks status.WriteFault un is = absurd un
@@ -242,7 +242,7 @@ none_ready top ready = cc
 
 -- CLAUSES
 
-module _ {D : Type 0} (view : D → View) (words : List (List ℕ)) (source_before source_now : SourceView) (shop_before : Shop) (shop_faults : ℕ) (before now : SinkView) (ran : Ran D) where
+module _ {D : Type 0} (view : D → DiskView) (words : List (List ℕ)) (source_before source_now : SourceView) (shop_before : Shop) (shop_faults : ℕ) (before now : SinkView) (ran : Ran D) where
   abbrev Answers : Type 0
   Answers = IsAnswerToWords view words source_before source_now shop_before shop_faults before now ran
 

@@ -1,8 +1,8 @@
 -- Why no store was mounted, by what the mounting answered.
 use Rattle.std.proofs.Common.{ℕ, ◌≡◌, ◌+◌, ◌<◌, zero, suc, List, [], ◌∷◌, length, refl, sym, subst, inl, inr, arith, ap, ◌∙◌}
 use Rattle.std.specs.Prelude.{◌⊎◌, slice_get, Some}
-use Rattle.qc_disk.specs.Disk.{View, Rose}
-use Rattle.qc_disk.specs.Shop.{View as Shop}
+use Rattle.qc_disk.specs.Disk.{DiskView, Rose}
+use Rattle.qc_disk.specs.Shop.{ShopView as Shop}
 use Rattle.qc_event.specs.declared.table.Table.{Table}
 use Rattle.qc_opening.specs.Disks.{AreCounted, IsLeft}
 use Rattle.qc_opening.specs.Images.{Offers}
@@ -16,7 +16,7 @@ use Rattle.qc_run.specs.Left.{IsStatusOf, IsUnmounted}
 use Rattle.qc_run.specs.Run.{journal_limit}
 use Rattle.qc_run.specs.declared.status.Status.{Status}
 
-module _ {D : Type 0} (view : D → View) where
+module _ {D : Type 0} (view : D → DiskView) where
   -- the count of the disk that failed has risen
   failed_at : (table : Table) (counts : ℕ → ℕ) (which number k : ℕ) (Behind : ℕ → Type 0) (given back : List D) → AreCounted view counts number given → PairsFrom (IsLeft view table (λ n. n ≡ which) Behind) number given back
       → number + k ≡ which → k < length back → (disk : D) × (slice_get back k ≡ Some disk) × Rose (counts which) (view disk).faults

@@ -13,7 +13,7 @@ use Rattle.qc_audit.specs.Verdicts.{Judges}
 use Rattle.qc_audit.specs.declared.verdict.Verdict.{Verdict}
 use Rattle.qc_run.specs.Audit.{Finds, IsMalformed, IsNoTrail}
 use Rattle.qc_run.specs.Left.{IsNoScript, IsUnread}
-use Rattle.qc_script.specs.Reading.{IsProper, IsScript, IsRefused}
+use Rattle.qc_script.specs.Reading.{IsProper, IsScript, ScriptIsRefused}
 use Rattle.qc_script.proofs.ProperMade.{made_proper}
 use Rattle.qc_script.proofs.ProperScript.{proper_script}
 use Rattle.qc_run.specs.Run.{ReadsScript, RunsScript, AsksFor, HadScript, IsScriptFor, IsScriptOf, IsScriptFault, IsNoRun, IsRun, IsSessionRun}
@@ -67,18 +67,18 @@ reads_script (Some l) now bytes s taken drops ended is =
       is_script = is;
     }
 
-refused_before : (left bytes : List ℕ) (e : BadScript) → bytes ≡ take most left → IsRefused bytes e → IsRefused left e
+refused_before : (left bytes : List ℕ) (e : BadScript) → bytes ≡ take most left → ScriptIsRefused bytes e → ScriptIsRefused left e
 refused_before left bytes TooLong taken no_script = let longer = no_longer left bytes taken in omega arith
-refused_before left bytes NotJson taken no_script = subst (λ x. IsRefused x NotJson) (sym (all_taken left bytes taken no_script.short)) no_script
+refused_before left bytes NotJson taken no_script = subst (λ x. ScriptIsRefused x NotJson) (sym (all_taken left bytes taken no_script.short)) no_script
 refused_before left bytes Memory taken no_script = tt
-refused_before left bytes (Shape word) taken no_script = subst (λ x. IsRefused x (Shape word)) (sym (all_taken left bytes taken no_script.short)) no_script
-refused_before left bytes (Limit word n) taken no_script = subst (λ x. IsRefused x (Limit word n)) (sym (all_taken left bytes taken no_script.short)) no_script
-refused_before left bytes (Config why) taken no_script = subst (λ x. IsRefused x (Config why)) (sym (all_taken left bytes taken no_script.short)) no_script
-refused_before left bytes (Unknown name) taken no_script = subst (λ x. IsRefused x (Unknown name)) (sym (all_taken left bytes taken no_script.short)) no_script
-refused_before left bytes (Twice name) taken no_script = subst (λ x. IsRefused x (Twice name)) (sym (all_taken left bytes taken no_script.short)) no_script
+refused_before left bytes (Shape word) taken no_script = subst (λ x. ScriptIsRefused x (Shape word)) (sym (all_taken left bytes taken no_script.short)) no_script
+refused_before left bytes (Limit word n) taken no_script = subst (λ x. ScriptIsRefused x (Limit word n)) (sym (all_taken left bytes taken no_script.short)) no_script
+refused_before left bytes (Config why) taken no_script = subst (λ x. ScriptIsRefused x (Config why)) (sym (all_taken left bytes taken no_script.short)) no_script
+refused_before left bytes (Unknown name) taken no_script = subst (λ x. ScriptIsRefused x (Unknown name)) (sym (all_taken left bytes taken no_script.short)) no_script
+refused_before left bytes (Twice name) taken no_script = subst (λ x. ScriptIsRefused x (Twice name)) (sym (all_taken left bytes taken no_script.short)) no_script
 
 -- what is refused of the bytes taken is refused of all
-pub fault_of_all : (left : Option (List ℕ)) (bytes : List ℕ) (e : BadScript) → IfSome left (λ l. bytes ≡ take most l) → IsRefused bytes e → IfSome left (λ l. IsRefused l e)
+pub fault_of_all : (left : Option (List ℕ)) (bytes : List ℕ) (e : BadScript) → IfSome left (λ l. bytes ≡ take most l) → ScriptIsRefused bytes e → IfSome left (λ l. ScriptIsRefused l e)
 fault_of_all None bytes e taken refused = tt
 fault_of_all (Some l) bytes e taken refused = refused_before l bytes e taken refused
 
@@ -131,11 +131,11 @@ proper_one before now s (Asked.made_of n) made = subst IsProper (sym made) (made
 proper_one before now s Asked.audit script = absurd script
 
 -- a script that is to be read is not refused
-asked_not_refused : (words : List (List ℕ)) (left : Option (List ℕ)) (s : ScriptPlan) (e : BadScript) → AsksFor words left s → IsReading words → IfSome left (λ bytes. IsRefused bytes e) → e ≢ Memory → ⊥
+asked_not_refused : (words : List (List ℕ)) (left : Option (List ℕ)) (s : ScriptPlan) (e : BadScript) → AsksFor words left s → IsReading words → IfSome left (λ bytes. ScriptIsRefused bytes e) → e ≢ Memory → ⊥
 asked_not_refused words left s e asks reading refused other = by_asked asks.asked asks.is_command asks.is_script
   where
     by_asked : (asked : Asked) → IsCommand words asked → IsScriptFor left s asked → ⊥
-    by_asked (Asked.read_at place mode form) is script = other (script_not_refused script.0 s e script.2 (subst (λ (o : Option (List ℕ)). IfSome o (λ bytes. IsRefused bytes e)) script.1 refused))
+    by_asked (Asked.read_at place mode form) is script = other (script_not_refused script.0 s e script.2 (subst (λ (o : Option (List ℕ)). IfSome o (λ bytes. ScriptIsRefused bytes e)) script.1 refused))
     by_asked (Asked.made_of n) is script = not_both words reading.0 n reading.1 is
     by_asked Asked.audit is script = script
 

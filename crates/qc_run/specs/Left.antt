@@ -2,8 +2,8 @@
 use Rattle.std.specs.Prelude.{ℕ, ◌≤◌, ◌≡◌, ◌≢◌, ◌⊎◌, List, [], length, reverse, IfSome, IsSome}
 use Rattle.qc_audit.specs.Saved.{saved_text, IsSaved}
 use Rattle.qc_config.specs.declared.tuple.Tuple.{Tuple}
-use Rattle.qc_disk.specs.Disk.{View}
-use Rattle.qc_disk.specs.Shop.{View as Shop}
+use Rattle.qc_disk.specs.Disk.{DiskView}
+use Rattle.qc_disk.specs.Shop.{ShopView as Shop}
 use Rattle.qc_event.specs.History.{Name, limit}
 use Rattle.qc_event.specs.Legal.{Legal}
 use Rattle.qc_event.specs.Tables.{base_of, setting_of}
@@ -20,7 +20,7 @@ use Rattle.qc_opening.specs.Stored.{AllTell, AreImages, HaveGrown, HavePaid, Led
 use Rattle.qc_refine.specs.Images.{IsStandingWithin, Restores}
 use Rattle.qc_report.specs.Report.{Text}
 use Rattle.qc_script.specs.Plan.{ScriptPlan}
-use Rattle.qc_script.specs.Reading.{IsScript, IsRefused}
+use Rattle.qc_script.specs.Reading.{IsScript, ScriptIsRefused}
 use Rattle.qc_script.specs.declared.bad_script.BadScript.TheVariants.{Memory}
 use Rattle.qc_trail_codec.specs.declared.record.SavedTrail.{SavedTrail}
 use Rattle.qc_opening.specs.Mountings.{HaveNoGrants}
@@ -73,16 +73,16 @@ TellsDoubt status.InDoubt trail = (top : Name) × IsInDoubt (reverse trail) top
 TellsDoubt _ trail = Unit {0}
 
 -- Nothing was begun, and what is told is the fault, whatever a report would be.
-pub record IsRefusal {D : Type 0} (before now : SinkView) (ran : Ran D) : Type 0 where
+pub record IsRefusedRun {D : Type 0} (before now : SinkView) (ran : Ran D) : Type 0 where
   pub none : NoneBegun ran.start ran.trail
   pub wrote : (text : Text) → Wrote before now ran.status text
 
 -- Nor was a disk obtained.
 pub record IsEarly {D : Type 0} (before now : SinkView) (ran : Ran D) : Type 0 where
-  pub refusal : IsRefusal before now ran
+  pub refusal : IsRefusedRun before now ran
   pub no_disks : ran.disks.items ≡ []
 
-module _ {D : Type 0} (view : D → View) (s : ScriptPlan) (shop : Shop) (place : Text) where
+module _ {D : Type 0} (view : D → DiskView) (s : ScriptPlan) (shop : Shop) (place : Text) where
   -- The session of a script was run, from what the disks of a store restored, and left this.
   pub record HasRun (ran : Ran D) : Type 0 where
     pub answer : IsPerformed ran.status
@@ -133,14 +133,14 @@ IsStatusOf (no.Memory disks) answer = answer ≡ status.Memory
 
 -- why bytes are no script
 abbrev pub IsNoScript : List ℕ → Status → Type 0
-IsNoScript bytes (status.Script e) = IsRefused bytes e × (e ≢ Memory)
+IsNoScript bytes (status.Script e) = ScriptIsRefused bytes e × (e ≢ Memory)
 IsNoScript bytes status.Memory = Unit {0}
 IsNoScript bytes _ = ⊥
 
 -- why a script that was to be read was not
 abbrev pub IsUnread : SourceView → SourceView → Status → Type 0
 IsUnread before now status.ReadFault = Rose before.faults now.faults
-IsUnread before now (status.Script e) = IfSome before.left (λ bytes. IsRefused bytes e) × (e ≢ Memory)
+IsUnread before now (status.Script e) = IfSome before.left (λ bytes. ScriptIsRefused bytes e) × (e ≢ Memory)
 IsUnread before now status.Memory = Unit {0}
 IsUnread before now _ = ⊥
 
@@ -159,7 +159,7 @@ pub record HasAudited {D : Type 0} (source_before source_now : SourceView) (befo
   pub text : Text
   pub wrote : Wrote before now ran.status text
 
-module _ {D : Type 0} (view : D → View) where
+module _ {D : Type 0} (view : D → DiskView) where
   -- what is answered to bytes, over disks of a place, where this is written of a run
   abbrev pub IsAnswerToBytes : Form → List ℕ → Shop → Text → ℕ → SinkView → SinkView → Ran D → Type 0
   IsAnswerToBytes form bytes shop place shop_now before now ran =

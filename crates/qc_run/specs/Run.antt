@@ -3,7 +3,7 @@ use Rattle.std.specs.Prelude.{ℕ, ◌+◌, ◌^◌, ◌≡◌, ◌≢◌, ◌�
 use Rattle.std.specs.List.{list_all}
 use Rattle.qc_audit.specs.Saved.{saved_text}
 use Rattle.qc_config.specs.declared.tuple.Tuple.{Tuple}
-use Rattle.qc_disk.specs.Disk.{View, Rose as DiskRose}
+use Rattle.qc_disk.specs.Disk.{DiskView, Rose as DiskRose}
 use Rattle.qc_event.specs.History.{Past, Name, end, is_ready}
 use Rattle.qc_event.specs.Sound.{IsSound}
 use Rattle.qc_event.specs.Tables.{setting_of}
@@ -16,7 +16,7 @@ use Rattle.qc_report.specs.LastValues.{values_by_version}
 use Rattle.qc_report.specs.Report.{Text, report, summary}
 use Rattle.qc_script.specs.MadePlan.{made_plan}
 use Rattle.qc_script.specs.Plan.{ScriptPlan}
-use Rattle.qc_script.specs.Reading.{IsScript, IsRefused}
+use Rattle.qc_script.specs.Reading.{IsScript, ScriptIsRefused}
 use Rattle.qc_script.specs.declared.bad_script.BadScript.TheVariants.{Memory}
 use Rattle.qc_serial.specs.Serial.{IsSerialThroughout, final_values}
 use Rattle.qc_run.specs.FaultLine.{fault_line}
@@ -46,8 +46,8 @@ most_taken_for _ = most_taken
 abbrev pub FollowsIn : ℕ → ScriptPlan → List Entry → Type 0
 FollowsIn epoch s trail = FollowsScript epoch s.patience s.sessions (reverse trail)
 
-abbrev pub Follows : ScriptPlan → List Entry → Type 0
-Follows s trail = (epoch : ℕ) × FollowsIn epoch s trail
+abbrev pub TrailFollows : ScriptPlan → List Entry → Type 0
+TrailFollows s trail = (epoch : ℕ) × FollowsIn epoch s trail
 
 -- a trail is a beginning of one that follows a script
 abbrev pub BeginsIn : ℕ → ScriptPlan → List Entry → Type 0
@@ -141,7 +141,7 @@ pub record AllOffered (table : Table) (offers : ℕ → Option (List ℕ)) (imag
 
 -- The shop, whose count of faults was the one and is the other, failed at the next disk after those that came back; or the disk
 -- of this number came back, and its count rose from the one that the shop told.
-abbrev pub IsDiskFault : {D : Type 0} → (D → View) → ℕ → ℕ → (ℕ → ℕ) → List D → ℕ → Type 0
+abbrev pub IsDiskFault : {D : Type 0} → (D → DiskView) → ℕ → ℕ → (ℕ → ℕ) → List D → ℕ → Type 0
 IsDiskFault {D} view before now counts disks which =
     ((which ≡ length disks) × DiskRose before now)
     ⊎ ((disk : D) × (slice_get disks which ≡ Some disk) × DiskRose (counts which) (view disk).faults)
@@ -204,7 +204,7 @@ IsTold answer = BeganNothing answer
 
 -- a script was read, and the bytes are refused for the cause that is told, which is not want of memory
 abbrev pub IsScriptFault : List Text → Option (List ℕ) → Status → Type 0
-IsScriptFault words left (status.Script e) = IsReading words × IfSome left (λ bytes. IsRefused bytes e) × (e ≢ Memory)
+IsScriptFault words left (status.Script e) = IsReading words × IfSome left (λ bytes. ScriptIsRefused bytes e) × (e ≢ Memory)
 IsScriptFault words left _ = Unit {0}
 
 -- a script was read, or a trail, and the source failed

@@ -135,7 +135,7 @@ where
     ensures follows_script { terms.RanToEnd result.status
         → terms.UnlessAudit (map string_bytes words.now) (terms.OfScript
         (map string_bytes words.now) (S.view source.old).left (S.view source.new).left
-        (λ s. terms.Follows s result.trail)) }
+        (λ s. terms.TrailFollows s result.trail)) }
     ensures started { terms.HadScript result.status
         → terms.UnlessAudit (map string_bytes words.now) (terms.OfScript
         (map string_bytes words.now) (S.view source.old).left (S.view source.new).left (λ _. ⊤)) }

@@ -4,7 +4,7 @@ ghost use Rattle.qc_disk.specs.Shop.{TellsAlike, first_disks};
 ghost use Rattle.qc_io.specs.Io.{Drops, LosesWithin};
 ghost use Rattle.qc_run.specs.Left as left;
 ghost use Rattle.qc_run.specs.Run as terms;
-ghost use Rattle.qc_script.specs.Reading.{IsProper, IsRefused, IsScript};
+ghost use Rattle.qc_script.specs.Reading.{IsProper, ScriptIsRefused, IsScript};
 ghost use Rattle.qc_script.specs.Steps.{plan_of_script};
 
 use crate::finishing::Form;
@@ -24,7 +24,7 @@ use std::thread::Threads;
 // The script that the bytes are, which are let go of then.
 fn script_of(alloc: Global, bytes: Vec<u8>) -> Result<Script, BadScript>
     ensures found { IfOk result (λ s. IsScript bytes.items (plan_of_script s)) }
-    ensures refused { IfErr result (λ e. IsRefused bytes.items e) }
+    ensures refused { IfErr result (λ e. ScriptIsRefused bytes.items e) }
     ensures proper { IfOk result (λ s. IsProper (plan_of_script s)) }
 {
     Script::read(alloc, bytes.as_slice())

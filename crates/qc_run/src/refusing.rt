@@ -19,7 +19,7 @@ pub(crate) fn nothing<D: Drop>(alloc: Global, status: Status, disks: Vec<D>) -> 
     ensures none { terms.NoneBegun result.start result.trail }
     ensures disks { result.disks ≡ disks }
     ensures memory { (sink : SinkView) → status ≡ Status.Memory
-        → left.IsRefusal sink sink result }
+        → left.IsRefusedRun sink sink result }
     ensures early { (sink : SinkView) → status ≡ Status.Memory → disks.items ≡ []
         → left.IsEarly sink sink result }
 {
@@ -56,7 +56,7 @@ pub(crate) fn refuse<K: Sink, D: Drop>(
 ) -> Ran<D>
     requires { terms.IsTold status }
     ensures answer { terms.IsOrMemory status result.status }
-    ensures refusal { left.IsRefusal (K.view sink.old) (K.view sink.new) result }
+    ensures refusal { left.IsRefusedRun (K.view sink.old) (K.view sink.new) result }
     ensures early { disks.items ≡ []
         → left.IsEarly (K.view sink.old) (K.view sink.new) result }
     ensures disks { result.disks ≡ disks }
@@ -72,7 +72,7 @@ pub(crate) fn unmounted<K: Sink, D: Drop>(
     sink: &mut K,
 ) -> Ran<D>
     ensures answer { left.IsStatusOf refused result.status }
-    ensures refusal { left.IsRefusal (K.view sink.old) (K.view sink.new) result }
+    ensures refusal { left.IsRefusedRun (K.view sink.old) (K.view sink.new) result }
     ensures disks { result.disks.items ≡ disks_in refused }
 {
     match refused {

@@ -4,7 +4,7 @@ use Rattle.serde_json.specs.Data.{Data}
 use Rattle.qc_script.specs.Plan.{ScriptPlan}
 use Rattle.qc_script.specs.JsonText.{Read}
 use Rattle.qc_script.specs.ScriptText.{script_of}
-use Rattle.qc_script.specs.Reading.{IsRead, IsScript, IsRefused}
+use Rattle.qc_script.specs.Reading.{IsRead, IsScript, ScriptIsRefused}
 use Rattle.qc_script.specs.declared.bad_script.BadScript.{BadScript}
 use Rattle.qc_script.specs.declared.bad_script.BadScript.TheVariants.{NotJson, Shape, Limit, Config, Unknown, TooLong, Twice, Memory}
 
@@ -22,7 +22,7 @@ same_answer : (bytes : List ℕ) (a b : Read ScriptPlan) → IsRead bytes a → 
 same_answer bytes a b x y = sym x.reads ∙ ap script_of (one_value x.value y.value _ x.json.reads y.json.reads) ∙ y.reads
 
 -- a script is refused for want of memory alone
-pub script_not_refused : (bytes : List ℕ) (s : ScriptPlan) (e : BadScript) → IsScript bytes s → IsRefused bytes e → e ≡ Memory
+pub script_not_refused : (bytes : List ℕ) (s : ScriptPlan) (e : BadScript) → IsScript bytes s → ScriptIsRefused bytes e → e ≡ Memory
 script_not_refused bytes s Memory x y = refl
 script_not_refused bytes s TooLong x y = let short = x.short in absurd (omega arith)
 script_not_refused bytes s NotJson x y = absurd (y.none x.value x.json)

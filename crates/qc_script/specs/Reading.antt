@@ -35,11 +35,11 @@ pub record IsNoJson (bytes : List ℕ) : Type 0 where
   pub none : (d : Data) → IsJson bytes d → ⊥
 
 -- The bytes are refused for this cause. Want of memory says nothing of them.
-abbrev pub IsRefused : List ℕ → BadScript → Type 0
-IsRefused bytes TooLong = 2 ^ 20 < length bytes
-IsRefused bytes NotJson = IsNoJson bytes
-IsRefused bytes Memory = Unit {0}
-IsRefused bytes e = IsRead bytes (Err e)
+abbrev pub ScriptIsRefused : List ℕ → BadScript → Type 0
+ScriptIsRefused bytes TooLong = 2 ^ 20 < length bytes
+ScriptIsRefused bytes NotJson = IsNoJson bytes
+ScriptIsRefused bytes Memory = Unit {0}
+ScriptIsRefused bytes e = IsRead bytes (Err e)
 
 -- What a reader of a part returned, seen by view, is what the part reads as, unless memory ran out.
 abbrev pub Fails : {Y : Type 0} → BadScript → Read Y → Type 0

@@ -6,7 +6,7 @@ ghost use Rattle.std.specs.Prelude.{◌≡◌, ◌≤◌, map, IfOk, IfErr};
 ghost use Rattle.serde_json.specs.View.{view};
 ghost use Rattle.qc_script.specs.ScriptText as script;
 ghost use Rattle.qc_script.specs.Steps.{plan_of_session, plan_of_script};
-ghost use Rattle.qc_script.specs.Reading.{Gives, IsScript, IsRefused, IsProper};
+ghost use Rattle.qc_script.specs.Reading.{Gives, IsScript, ScriptIsRefused, IsProper};
 
 mod bodies;
 mod object;
@@ -87,7 +87,7 @@ impl Script {
     /// first that is met from outside in, and comes for no script but for want of memory.
     pub fn read(alloc: Global, bytes: &[u8]) -> Result<Script, BadScript>
         ensures found { IfOk result (λ s. IsScript bytes.now (plan_of_script s)) }
-        ensures refused { IfErr result (λ e. IsRefused bytes.now e) }
+        ensures refused { IfErr result (λ e. ScriptIsRefused bytes.now e) }
         ensures proper { IfOk result (λ s. IsProper (plan_of_script s)) }
     {
         if bytes.len() > MOST_BYTES {

@@ -5,7 +5,7 @@ use Rattle.qc_event.specs.declared.event.Outcome.TheVariants.{Live}
 use Rattle.qc_event.specs.History.{Given}
 use Rattle.qc_serial.proofs.MossNames.{Line, IsAbove, above-refl, above-length, above-not-up, above-one-child, cases_above}
 use Rattle.qc_serial.proofs.MossMoves.{Place, access_of, Move, Granted, Commit, Abort, outcome, grants}
-use Rattle.qc_serial.proofs.MossLocks.{In, AllLive, Follows}
+use Rattle.qc_serial.proofs.MossLocks.{In, AllLive, MovesFollow}
 use Rattle.qc_serial.proofs.MossSerial.{walk, serial}
 use Rattle.qc_serial.proofs.MossHistory.{all_live-before}
 use Rattle.qc_serial.proofs.MossLists.{in-append, in-left, in-right}
@@ -91,7 +91,7 @@ in_turn_at : (all xs ys : List Given) → xs ≡ ys → InTurn all ys → InTurn
 in_turn_at all xs ys e turn = subst (InTurn all) (sym e) turn
 
 module _ (base : Place → Tuple) where
-  in_turn_grant : (g : Given) (h : List Move) (t : Line) → Follows base (Granted g ∷ h) → AllLive h t → InTurn (grants h) (serial h t) → (AllLive h (access_of g) → InTurn (grants h) (serial h (access_of g))) → InTurn (g ∷ grants h) (serial (Granted g ∷ h) t)
+  in_turn_grant : (g : Given) (h : List Move) (t : Line) → MovesFollow base (Granted g ∷ h) → AllLive h t → InTurn (grants h) (serial h t) → (AllLive h (access_of g) → InTurn (grants h) (serial h (access_of g))) → InTurn (g ∷ grants h) (serial (Granted g ∷ h) t)
   in_turn_grant g h t l lt ih ihg = elim (cases_above (access_of g) t) [
     | inr out ↦ in_turn_at (g ∷ grants h) _ _ (serial-same (Granted g) h (access_of g) (g ∷ []) (adds-grant g h) t out) (in_turn_more g (grants h) (serial h t) ih)
     | inl u ↦
@@ -108,7 +108,7 @@ module _ (base : Place → Tuple) where
         ]))
   ]
 
-  in_turn_commit : (k : ℕ) (p : Line) (h : List Move) (t : Line) → Follows base (Commit k p ∷ h) → OneLive h → AllLive (Commit k p ∷ h) t → InTurn (grants h) (serial h t) → InTurn (grants h) (serial h (k ∷ p)) → InTurn (grants h) (serial (Commit k p ∷ h) t)
+  in_turn_commit : (k : ℕ) (p : Line) (h : List Move) (t : Line) → MovesFollow base (Commit k p ∷ h) → OneLive h → AllLive (Commit k p ∷ h) t → InTurn (grants h) (serial h t) → InTurn (grants h) (serial h (k ∷ p)) → InTurn (grants h) (serial (Commit k p ∷ h) t)
   in_turn_commit k p h t l one lt ih ihk = elim (cases_above p t) [
     | inr out ↦ in_turn_at (grants h) _ _ (serial-same (Commit k p) h p (walk h (k ∷ p)) (adds-commit k p h) t out) ih
     | inl u ↦
@@ -125,7 +125,7 @@ module _ (base : Place → Tuple) where
         differ cc))
   ]
 
-  pub in_turn : (h : List Move) (t : Line) → Follows base h → AlwaysOneLive h → AllLive h t → InTurn (grants h) (serial h t)
+  pub in_turn : (h : List Move) (t : Line) → MovesFollow base h → AlwaysOneLive h → AllLive h t → InTurn (grants h) (serial h t)
   in_turn [] t l one lt = in_turn_at [] _ _ (serial-empty t) tt
   in_turn (Granted g ∷ h) t l one lt = in_turn_grant g h t l lt (in_turn h t l.1 one.1 lt) (λ lg. in_turn h (access_of g) l.1 one.1 lg)
   in_turn (Commit k p ∷ h) t l one lt = in_turn_commit k p h t l one.0 lt (in_turn h t l.1 one.1 (all_live-before (Commit k p) h t lt)) (in_turn h (k ∷ p) l.1 one.1 l.0)

@@ -28,6 +28,6 @@ MayMove base h (Granted g) = (is_dead h (access_of g) ≡ true) ⊎ Free base h 
 MayMove base h (Commit k p) = AllLive h (k ∷ p)
 MayMove base h (Abort k p) = outcome h (k ∷ p) ≡ Live
 
-abbrev pub Follows : (Place → Tuple) → List Move → Type 0
-Follows base [] = Unit {0}
-Follows base (e ∷ h) = MayMove base h e × Follows base h
+abbrev pub MovesFollow : (Place → Tuple) → List Move → Type 0
+MovesFollow base [] = Unit {0}
+MovesFollow base (e ∷ h) = MayMove base h e × MovesFollow base h

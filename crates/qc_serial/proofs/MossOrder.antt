@@ -6,7 +6,7 @@ use Rattle.qc_config.specs.Tuple.{after}
 use Rattle.qc_event.specs.History.{Given}
 use Rattle.qc_serial.proofs.MossNames.{two_ways, Line, IsAbove, above-refl, above-not-up, above-one-child, cases_above}
 use Rattle.qc_serial.proofs.MossMoves.{Place, place_of, access_of, is_put, Move, Granted, Commit, Abort, is_dead, is_shown, grants, left_by, seen}
-use Rattle.qc_serial.proofs.MossLocks.{In, AllLive, Conflict, Free, MayMove, Follows}
+use Rattle.qc_serial.proofs.MossLocks.{In, AllLive, Conflict, Free, MayMove, MovesFollow}
 use Rattle.qc_serial.proofs.MossSerial.{walk, serial, state, Chain}
 use Rattle.qc_serial.proofs.MossHistory.{Shown, shown-all, shown-from, shown-stays, shown-down, shown-self, shown-not-dead, shown-live, shown-abort, shown-commit, shown-through, dead-stays, live-not-dead, all_live-before, all_live-up, commit-own}
 use Rattle.qc_serial.proofs.MossLists.{in-append, in-left, in-right, NoPut, cases_put, left-skip, left-none, left-over, left-tests, left-put, left-hidden, chain-insert}
@@ -28,7 +28,7 @@ conflict_at : (b c d : Given) → c ≡ d → Conflict b c → Conflict b d
 conflict_at b c d e x = subst (λ (y : Given). Conflict b y) e x
 
 -- of two grants that conflict, one is shown to the other, unless one is dead
-pub pairs : (base : Place → Tuple) (h : List Move) (b c : Given) → Follows base h → In b (grants h) → In c (grants h) → Conflict b c
+pub pairs : (base : Place → Tuple) (h : List Move) (b c : Given) → MovesFollow base h → In b (grants h) → In c (grants h) → Conflict b c
     → (is_dead h (access_of b) ≡ true → ⊥) → (is_dead h (access_of c) ≡ true → ⊥) → Shown h (access_of b) (access_of c) ⊎ Shown h (access_of c) (access_of b)
 pairs base [] b c l i j x nb nc = absurd i
 pairs base (Granted g ∷ h) b c l (inl p) (inl q) x nb nc = inl (shown_at (Granted g ∷ h) (access_of b) (access_of c) (ap (λ (y : Given). access_of y) (p ∙ sym q)))
@@ -61,7 +61,7 @@ pairs base (Abort k p ∷ h) b c l i j x nb nc =
     ]
 
 -- what is below a live child of p, against what stood in another child, which now commits
-apart-commit : (base : Place → Tuple) (h : List Move) (k d : ℕ) (p t : Line) (z y : Given) → Follows base h → AllLive h (k ∷ p) → AllLive h t → (d ≡ k → ⊥)
+apart-commit : (base : Place → Tuple) (h : List Move) (k d : ℕ) (p t : Line) (z y : Given) → MovesFollow base h → AllLive h (k ∷ p) → AllLive h t → (d ≡ k → ⊥)
     → In z (walk h (k ∷ p)) → Visible h y t → IsAbove (d ∷ p) t → IsAbove (d ∷ p) (access_of y) → Conflict z y → ⊥
 apart-commit base h k d p t z y l lk lt ne i v ut uy x =
     let w = walk-in base h (k ∷ p) z l i in
@@ -85,17 +85,17 @@ child_differs h k d p t l u e =
     cc
 
 -- what was later is in the old order, so it was granted and shown
-later-visible : (base : Place → Tuple) (e : Move) (h : List Move) (p : Line) (zs : List Given) (t : Line) (y : Given) → Follows base h → (s : Split base e h p zs t) → In y s.later → Visible h y t
+later-visible : (base : Place → Tuple) (e : Move) (h : List Move) (p : Line) (zs : List Given) (t : Line) (y : Given) → MovesFollow base h → (s : Split base e h p zs t) → In y s.later → Visible h y t
 later-visible base e h p zs t y l s i = serial-in base h t y l (subst (λ (x : List Given). In y x) (sym s.old) (in-left y s.later (serial h p) i))
 
 -- the two independence facts at one entry
-no_conflict-commit : (base : Place → Tuple) (h : List Move) (k : ℕ) (p t : Line) (y z : Given) → Follows base (Commit k p ∷ h) → AllLive (Commit k p ∷ h) t → (s : Split base (Commit k p) h p (walk h (k ∷ p)) t)
+no_conflict-commit : (base : Place → Tuple) (h : List Move) (k : ℕ) (p t : Line) (y z : Given) → MovesFollow base (Commit k p ∷ h) → AllLive (Commit k p ∷ h) t → (s : Split base (Commit k p) h p (walk h (k ∷ p)) t)
     → In y s.later → In z (walk h (k ∷ p)) → Conflict z y → ⊥
 no_conflict-commit base h k p t y z l lt s i j x =
     let b = s.below y i in
     apart-commit base h k b.0 p t z y l.1 l.0 (all_live-before (Commit k p) h t lt) (child_differs h k b.0 p t lt b.1.0) j (later-visible base (Commit k p) h p (walk h (k ∷ p)) t y l.1 s i) b.1.0 b.1.1 x
 
-no_conflict-grant : (base : Place → Tuple) (h : List Move) (g : Given) (t : Line) (y : Given) → Follows base h → Free base h g → AllLive h t → (s : Split base (Granted g) h (access_of g) (g ∷ []) t)
+no_conflict-grant : (base : Place → Tuple) (h : List Move) (g : Given) (t : Line) (y : Given) → MovesFollow base h → Free base h g → AllLive h t → (s : Split base (Granted g) h (access_of g) (g ∷ []) t)
     → In y s.later → Conflict y g → ⊥
 no_conflict-grant base h g t y l free lt s i x =
     let b = s.below y i in
@@ -118,7 +118,7 @@ in-new base e h p zs t b s i =
 in-new_added : (base : Place → Tuple) (e : Move) (h : List Move) (p : Line) (zs : List Given) (t : Line) (b : Given) → Split base e h p zs t → In b (zs ++ serial h p) → In b (serial (e ∷ h) t)
 in-new_added base e h p zs t b s i = subst (λ (x : List Given). In b x) (sym s.new) (in-right b s.later (zs ++ serial h p) i)
 
-in-kept : (base : Place → Tuple) (e : Move) (h : List Move) (p : Line) (zs : List Given) (t : Line) (b : Given) → Follows base h → Adds e h p zs → In b (serial h t) → In b (serial (e ∷ h) t)
+in-kept : (base : Place → Tuple) (e : Move) (h : List Move) (p : Line) (zs : List Given) (t : Line) (b : Given) → MovesFollow base h → Adds e h p zs → In b (serial h t) → In b (serial (e ∷ h) t)
 in-kept base e h p zs t b l ad i = elim (cases_above p t) [
   | inl u ↦ in-new base e h p zs t b (split base e h p zs t l ad u) i
   | inr out ↦ subst (λ (x : List Given). In b x) (sym (serial-same e h p zs ad t out)) i
@@ -129,7 +129,7 @@ newest-above : (base : Place → Tuple) (h : List Move) (g : Given) (t : Line) �
 newest-above base h g t (inl d) l s = absurd (shown-not-dead h (access_of g) t l s d)
 newest-above base h g t (inr f) l s = shown-live h (access_of g) t (access_of g) s (above-refl (access_of g)) (f.live (access_of g) (above-refl (access_of g)))
 
-pub serial-has : (base : Place → Tuple) (h : List Move) (t : Line) (b : Given) → Follows base h → AllLive h t → In b (grants h) → Shown h (access_of b) t → In b (serial h t)
+pub serial-has : (base : Place → Tuple) (h : List Move) (t : Line) (b : Given) → MovesFollow base h → AllLive h t → In b (grants h) → Shown h (access_of b) t → In b (serial h t)
 serial-has base [] t b l lt i s = absurd i
 serial-has base (Granted g ∷ h) t b l lt (inl e) s =
     let sg : Shown h (access_of g) t = subst (λ (x : Given). Shown h (access_of x) t) e s in
@@ -157,7 +157,7 @@ same_tests base e h t u gs place f g =
     (λ x. shown-from (e ∷ h) (access_of b) t (f b i at put (shown-all h (access_of b) u x)))
     (λ x. shown-from h (access_of b) u (g b i at put (shown-all (e ∷ h) (access_of b) t x))))
 
-state-grant : (base : Place → Tuple) (g : Given) (h : List Move) (t : Line) (place : Place) → Follows base (Granted g ∷ h) → AllLive h t
+state-grant : (base : Place → Tuple) (g : Given) (h : List Move) (t : Line) (place : Place) → MovesFollow base (Granted g ∷ h) → AllLive h t
     → state base (serial h t) place ≡ left_by base (λ n. is_shown h n t) (grants h) place
     → state base (serial (Granted g ∷ h) t) place ≡ left_by base (λ n. is_shown (Granted g ∷ h) n t) (g ∷ grants h) place
 state-grant base g h t place l lt ih =
@@ -194,7 +194,7 @@ state-grant base g h t place l lt ih =
           ]
     ]
 
-state-commit : (base : Place → Tuple) (k : ℕ) (p : Line) (h : List Move) (t : Line) (place : Place) → Follows base (Commit k p ∷ h) → AllLive (Commit k p ∷ h) t
+state-commit : (base : Place → Tuple) (k : ℕ) (p : Line) (h : List Move) (t : Line) (place : Place) → MovesFollow base (Commit k p ∷ h) → AllLive (Commit k p ∷ h) t
     → state base (serial h t) place ≡ left_by base (λ n. is_shown h n t) (grants h) place
     → state base (serial h (k ∷ p)) place ≡ left_by base (λ n. is_shown h n (k ∷ p)) (grants h) place
     → state base (serial (Commit k p ∷ h) t) place ≡ left_by base (λ n. is_shown (Commit k p ∷ h) n t) (grants h) place
@@ -248,7 +248,7 @@ serial-empty [] = refl
 serial-empty (k ∷ p) = serial-empty p
 
 -- what the serial order leaves at a place is what the shown puts leave in the order of the history
-pub state-shown : (base : Place → Tuple) (h : List Move) (t : Line) (place : Place) → Follows base h → AllLive h t
+pub state-shown : (base : Place → Tuple) (h : List Move) (t : Line) (place : Place) → MovesFollow base h → AllLive h t
     → state base (serial h t) place ≡ left_by base (λ n. is_shown h n t) (grants h) place
 state-shown base [] t place l lt = ap (λ (x : List Given). state base x place) (serial-empty t)
 state-shown base (Granted g ∷ h) t place l lt = state-grant base g h t place l lt (state-shown base h t place l.1 lt)
@@ -262,7 +262,7 @@ state-shown base (Abort k p ∷ h) t place l lt =
     (λ b i at put s. shown-abort h k p (access_of b) t s)
 
 -- a free grant finds what is shown to it
-found : (base : Place → Tuple) (h : List Move) (g : Given) → Follows base h → Free base h g → seen base h (place_of g) ≡ state base (serial h (access_of g)) (place_of g)
+found : (base : Place → Tuple) (h : List Move) (g : Given) → MovesFollow base h → Free base h g → seen base h (place_of g) ≡ state base (serial h (access_of g)) (place_of g)
 found base h g l free =
     left-tests base (λ n. not (is_dead h n)) (λ n. is_shown h n (access_of g)) (grants h) (place_of g) (λ b i at put. two_ways _ _
     (λ x. elim (free.clear b i (record { place = at; put = inl put })) [ inl d ↦ absurd (let n = not-true (is_dead h (access_of b)) x in cc) | inr s ↦ s ])
@@ -272,7 +272,7 @@ found base h g l free =
 chain-at : (base : Place → Tuple) (xs ys : List Given) → xs ≡ ys → Chain base ys → Chain base xs
 chain-at base xs ys e c = subst (λ (x : List Given). Chain base x) (sym e) c
 
-chain-grant : (base : Place → Tuple) (g : Given) (h : List Move) (t : Line) → Follows base (Granted g ∷ h) → AllLive h t → Chain base (serial h t) → (AllLive h (access_of g) → Chain base (serial h (access_of g))) → Chain base (serial (Granted g ∷ h) t)
+chain-grant : (base : Place → Tuple) (g : Given) (h : List Move) (t : Line) → MovesFollow base (Granted g ∷ h) → AllLive h t → Chain base (serial h t) → (AllLive h (access_of g) → Chain base (serial h (access_of g))) → Chain base (serial (Granted g ∷ h) t)
 chain-grant base g h t l lt ih ihg = elim (cases_above (access_of g) t) [
   | inr out ↦ chain-at base _ _ (serial-same (Granted g) h (access_of g) (g ∷ []) (adds-grant g h) t out) ih
   | inl u ↦
@@ -286,7 +286,7 @@ chain-grant base g h t l lt ih ihg = elim (cases_above (access_of g) t) [
       ]))
 ]
 
-chain-commit : (base : Place → Tuple) (k : ℕ) (p : Line) (h : List Move) (t : Line) → Follows base (Commit k p ∷ h) → AllLive (Commit k p ∷ h) t → Chain base (serial h t) → Chain base (serial h (k ∷ p)) → Chain base (serial (Commit k p ∷ h) t)
+chain-commit : (base : Place → Tuple) (k : ℕ) (p : Line) (h : List Move) (t : Line) → MovesFollow base (Commit k p ∷ h) → AllLive (Commit k p ∷ h) t → Chain base (serial h t) → Chain base (serial h (k ∷ p)) → Chain base (serial (Commit k p ∷ h) t)
 chain-commit base k p h t l lt ih ihk = elim (cases_above p t) [
   | inr out ↦ chain-at base _ _ (serial-same (Commit k p) h p (walk h (k ∷ p)) (adds-commit k p h) t out) ih
   | inl u ↦
@@ -297,7 +297,7 @@ chain-commit base k p h t l lt ih ihk = elim (cases_above p t) [
 ]
 
 -- each visible grant finds what the earlier ones leave
-pub serial-chain : (base : Place → Tuple) (h : List Move) (t : Line) → Follows base h → AllLive h t → Chain base (serial h t)
+pub serial-chain : (base : Place → Tuple) (h : List Move) (t : Line) → MovesFollow base h → AllLive h t → Chain base (serial h t)
 serial-chain base [] t l lt = chain-at base _ _ (serial-empty t) tt
 serial-chain base (Granted g ∷ h) t l lt = chain-grant base g h t l lt (serial-chain base h t l.1 lt) (λ lg. serial-chain base h (access_of g) l.1 lg)
 serial-chain base (Commit k p ∷ h) t l lt = chain-commit base k p h t l lt (serial-chain base h t l.1 (all_live-before (Commit k p) h t lt)) (serial-chain base h (k ∷ p) l.1 l.0)

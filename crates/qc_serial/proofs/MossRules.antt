@@ -29,7 +29,7 @@ use Rattle.qc_serial.proofs.Accesses.{asked_access, grant_asked, committed_grant
 use Rattle.qc_serial.proofs.MossNames.{Line}
 use Rattle.qc_serial.proofs.MossMoves as moss
 use Rattle.qc_serial.proofs.MossMoves.{Granted, Commit, Abort, is_put, is_dead, is_shown, place_of}
-use Rattle.qc_serial.proofs.MossLocks.{In, AllLive, Conflict, Free, Follows}
+use Rattle.qc_serial.proofs.MossLocks.{In, AllLive, Conflict, Free, MovesFollow}
 use Rattle.qc_serial.proofs.MossTurned.{turn_last, turn_back}
 use Rattle.qc_serial.proofs.MossPast.{end_move, move_in, moves, start_at, left_moves, none_found}
 use Rattle.qc_serial.proofs.MossStands.{live_moves, dead_moves, shown_moves, shown_in}
@@ -83,7 +83,7 @@ commit_open : (past : Past) → Orderly past → (k : ℕ) (p : Line) → Commit
 commit_open past orderly k p commits =
     all_open past orderly (k ∷ p) (started_or_root past (reverse (k ∷ p)) commits.is_open.started) commits.is_open.not_ended (commits_alive past k p (lawful past orderly) commits)
 
-follows_end : (setting : Setting) (past : Past) → Orderly past → (n : Name) (h : How) (m : Line) → reverse n ≡ m → Ends past n h → Follows (start_at setting.base) (moves past) → Follows (start_at setting.base) (end_move m h ++ moves past)
+follows_end : (setting : Setting) (past : Past) → Orderly past → (n : Name) (h : How) (m : Line) → reverse n ≡ m → Ends past n h → MovesFollow (start_at setting.base) (moves past) → MovesFollow (start_at setting.base) (end_move m h ++ moves past)
 follows_end setting past orderly n h [] is ends follows = follows
 follows_end setting past orderly n (how.Commit answer) (k ∷ p) is ends follows = (commit_open past orderly k p (subst (Commits past) (turn_back n (k ∷ p) is) ends), follows)
 follows_end setting past orderly n (how.Abort cause) (k ∷ p) is ends follows = (live_moves past orderly (k ∷ p) (subst (λ x. end past x ≡ None) (turn_back n (k ∷ p) is) ends.not_ended), follows)
@@ -168,11 +168,11 @@ module _ (setting : Setting) (past : Past) (legal : Legal setting past) (seat co
 
 -- EACH ENTRY
 
-follows_entry : (setting : Setting) (past : Past) (seat : ℕ) (ev : Event) → Legal setting past → KeepsOrder past ev → MayHappen setting past seat ev → Follows (start_at setting.base) (moves past) → Follows (start_at setting.base) (move_in ev ++ moves past)
+follows_entry : (setting : Setting) (past : Past) (seat : ℕ) (ev : Event) → Legal setting past → KeepsOrder past ev → MayHappen setting past seat ev → MovesFollow (start_at setting.base) (moves past) → MovesFollow (start_at setting.base) (move_in ev ++ moves past)
 follows_entry setting past seat (event.Granted copy grant) legal keeps may follows = (follows_grant setting past legal seat copy grant may, follows)
 follows_entry setting past seat (event.End n h) legal keeps may follows = follows_end setting past (legal_orderly setting past legal) n h (reverse n) refl keeps follows
 follows_entry setting past seat _ legal keeps may follows = follows
 
-pub follows : (setting : Setting) (past : Past) → Legal setting past → Follows (start_at setting.base) (moves past)
+pub follows : (setting : Setting) (past : Past) → Legal setting past → MovesFollow (start_at setting.base) (moves past)
 follows setting [] legal = tt
 follows setting (e ∷ past) legal = follows_entry setting past e.seat e.event legal.0 (legal_orderly setting (e ∷ past) legal).1 legal.1 (follows setting past legal.0)

@@ -5,7 +5,7 @@ use Rattle.qc_config.specs.declared.tuple.Tuple.{Tuple}
 use Rattle.qc_event.specs.History.{Given, same}
 use Rattle.qc_serial.proofs.MossNames.{Line, IsAbove, same_from, same_not, cases_name, above-refl, above-parent, above-trans, above-not-up, Below, above-split}
 use Rattle.qc_serial.proofs.MossMoves.{Place, access_of, Move, Granted, Commit, Abort, grants}
-use Rattle.qc_serial.proofs.MossLocks.{In, MayMove, Follows}
+use Rattle.qc_serial.proofs.MossLocks.{In, MayMove, MovesFollow}
 use Rattle.qc_serial.proofs.MossSerial.{walk, serial}
 use Rattle.qc_serial.proofs.MossHistory.{Shown, shown-stays, shown-down, shown-self, commit-own, committed-stays}
 use Rattle.qc_serial.proofs.MossLists.{in-append}
@@ -71,7 +71,7 @@ listed-grant h g b n e q =
     let na : IsAbove (access_of b) n = subst (λ (x : Line). IsAbove x n) at (above-refl n) in
     record { granted = inl q; shown = shown-self (Granted g ∷ h) (access_of b) n na; under = an }
 
-pub walk-in : (base : Place → Tuple) (h : List Move) (n : Line) (b : Given) → Follows base h → In b (walk h n) → Listed h b n
+pub walk-in : (base : Place → Tuple) (h : List Move) (n : Line) (b : Given) → MovesFollow base h → In b (walk h n) → Listed h b n
 walk-in base [] n b l i = absurd i
 walk-in base (Granted g ∷ h) n b l i = elim (cases_name (access_of g) n) [
   | inl e ↦
@@ -98,7 +98,7 @@ pub record Visible (h : List Move) (b : Given) (t : Line) : Type 0 where
   pub granted : In b (grants h)
   pub shown : Shown h (access_of b) t
 
-pub serial-in : (base : Place → Tuple) (h : List Move) (t : Line) (b : Given) → Follows base h → In b (serial h t) → Visible h b t
+pub serial-in : (base : Place → Tuple) (h : List Move) (t : Line) (b : Given) → MovesFollow base h → In b (serial h t) → Visible h b t
 serial-in base h [] b l i = let x = walk-in base h [] b l i in record { granted = x.granted; shown = x.shown }
 serial-in base h (k ∷ p) b l i = elim (in-append b (walk h (k ∷ p)) (serial h p) i) [
   | inl j ↦ let x = walk-in base h (k ∷ p) b l j in record { granted = x.granted; shown = x.shown }
@@ -131,7 +131,7 @@ under_of p q k u = elim (above-split p (k ∷ q) (inr u)) [
   | inr b ↦ b
 ]
 
-pub split : (base : Place → Tuple) (e : Move) (h : List Move) (p : Line) (zs : List Given) (t : Line) → Follows base h → Adds e h p zs → IsAbove p t → Split base e h p zs t
+pub split : (base : Place → Tuple) (e : Move) (h : List Move) (p : Line) (zs : List Given) (t : Line) → MovesFollow base h → Adds e h p zs → IsAbove p t → Split base e h p zs t
 split base e h p zs [] l ad u = split-here base e h p zs [] ad u
 split base e h p zs (k ∷ q) l ad (inl u) = split-here base e h p zs (k ∷ q) ad u
 split base e h p zs (k ∷ q) l ad (inr u) =

@@ -37,7 +37,7 @@ use Rattle.qc_desk.specs.Entries.{IsSince}
 use Rattle.qc_desk.specs.Own.{CommitsOwn, IsMine}
 use Rattle.qc_desk.specs.Refusing.{against_abort, against_commit}
 use Rattle.qc_desk.proofs.Lasting.{orphan_stays}
-use Rattle.qc_managers.specs.Managed.{IsAnswered, IsRefused, IsShort, MayEndFor, cause_of}
+use Rattle.qc_managers.specs.Managed.{IsAnswered, ManagerIsRefused, IsShort, MayEndFor, cause_of}
 use Rattle.qc_managers.specs.declared.no.MgrNo.{MgrNo}
 use Rattle.qc_managers.specs.declared.no.MgrNo.TheVariants as no
 use Rattle.qc_script.specs.Calls.{GaveNone, IsOfAccess, Ran, Refuses, WasCut, WasRefused, is_asked}
@@ -167,11 +167,11 @@ module _ (setting : Setting) (v w : View) (n : Name) (k : Kind) where
   closed_for (no.Short s) x is may ends = absurd cc
 
   -- it may end for its cause
-  pub refused_may : (reason : MgrNo) (x : Cause) → cause_of reason ≡ Some x → IsRefused setting v.number v.seen n k reason → MayEndFor setting v.number v.seen n k x
+  pub refused_may : (reason : MgrNo) (x : Cause) → cause_of reason ≡ Some x → ManagerIsRefused setting v.number v.seen n k reason → MayEndFor setting v.number v.seen n k x
   refused_may reason x is refused = subst (λ o. MatchOption o (IsShort v.seen reason) (MayEndFor setting v.number v.seen n k)) is refused
 
   -- it has no cause, and stays open
-  pub unended : (reason : MgrNo) → cause_of reason ≡ None → IsRefused setting v.number v.seen n k reason → NotClosed v v n (told reason)
+  pub unended : (reason : MgrNo) → cause_of reason ≡ None → ManagerIsRefused setting v.number v.seen n k reason → NotClosed v v n (told reason)
   unended (no.Short s) is refused = (walking.nothing v, refused)
   unended (no.Orphan a) is refused = absurd cc
   unended (no.Conflict copy holder) is refused = absurd cc

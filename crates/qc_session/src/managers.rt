@@ -8,7 +8,7 @@ ghost use Rattle.qc_event.specs.Standing.{IsUser, Started};
 ghost use Rattle.qc_event.specs.Tables.{setting_of};
 ghost use Rattle.qc_managers.specs.Carrying.{HasGrown, IsRunning};
 ghost use Rattle.qc_net.specs.Courier.{link_of};
-ghost use Rattle.qc_managers.specs.Managed.{IsAnswered, IsRefused, MayEndFor};
+ghost use Rattle.qc_managers.specs.Managed.{IsAnswered, ManagerIsRefused, MayEndFor};
 ghost use Rattle.qc_script.specs.Calls.{GaveNone, Ran};
 ghost use Rattle.qc_script.specs.Client.{Client};
 ghost use Rattle.qc_script.specs.Managers.{manager_for, IsAnswerTo};
@@ -55,7 +55,7 @@ fn ask<C: Carrier>(
     ensures answered { IfOk result (IsAnswered (C.view carrier.old).setting
         (C.view carrier.old).seat (C.view carrier.new).seen name.now (manager_for what.now)) }
     ensures answers { IfOk result (IsAnswerTo what.now) }
-    ensures refused { IfErr result (IsRefused (C.view carrier.old).setting
+    ensures refused { IfErr result (ManagerIsRefused (C.view carrier.old).setting
         (C.view carrier.old).seat (C.view carrier.new).seen name.now (manager_for what.now)) }
     ensures became { C.became carrier.old carrier.new }
 {
@@ -138,7 +138,7 @@ fn close<R: Wait, D: Disk + Drop, L: Link + Drop, N: Mounting>(
 ) -> Result<Answer, TxNo>
     requires answered { IfOk came_to.now (IsAnswered (setting_of N.table N.base)
         line.old.pass.number line.old.pass.seen name.now (manager_for what.now)) }
-    requires refused { IfErr came_to.now (IsRefused (setting_of N.table N.base)
+    requires refused { IfErr came_to.now (ManagerIsRefused (setting_of N.table N.base)
         line.old.pass.number line.old.pass.seen name.now (manager_for what.now)) }
     ensures ok { IfOk result (Closed line.old.pass line.new.pass name.now came_to.now) }
     ensures err { IfErr result (NotClosed line.old.pass line.new.pass name.now) }

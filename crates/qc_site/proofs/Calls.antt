@@ -25,7 +25,7 @@ use Rattle.qc_desk.proofs.Seers.{older_trans}
 use Rattle.qc_site.specs.AtDesk.{hand_entries}
 use Rattle.qc_site.specs.Back.{grant_body}
 use Rattle.qc_site.specs.Calls.{empty_handed, SiteBecame, CanServe, HasServed, GrantMoments, SiteState, SiteWroteNone}
-use Rattle.qc_site.specs.Log.{journal_in}
+use Rattle.qc_site.specs.Log.{log_journal}
 use Rattle.qc_site.specs.Replica.{Standing}
 use Rattle.qc_site.specs.Since.{GrantsGrow}
 use Rattle.qc_site.specs.Sites.{AnswerEnters, EntersHand, EntersThen, KeepsGranted}
@@ -83,41 +83,41 @@ ready_by (Err e) s up none = tt
 
 module _ {D : Type 0} {g : Ghosts D} where
   abbrev left_by : GrantLog D g → List ℕ → Type 0
-  left_by log = (g.view (disk_of (journal_in log))).may_leave
+  left_by log = (g.view (disk_of (log_journal log))).may_leave
 
   abbrev disk_in : GrantLog D g → D
-  disk_in log = disk_of (journal_in log)
+  disk_in log = disk_of (log_journal log)
 
 module _ (setting : Setting) (copy : ℕ) {D : Type 0} {g : Ghosts D} where
   -- over the same journal
-  over_same : (old new : SiteState g) → LeavesNow (journal_in old.log) → journal_in new.log ≡ journal_in old.log → new.strange ≡ old.strange → IsOlder old.replica.pass.seen new.replica.pass.seen
+  over_same : (old new : SiteState g) → LeavesNow (log_journal old.log) → log_journal new.log ≡ log_journal old.log → new.strange ≡ old.strange → IsOlder old.replica.pass.seen new.replica.pass.seen
       → ((before : List (List ℕ)) → KeepsGranted copy before old.log old.replica → KeepsGranted copy before new.log new.replica) → SiteBecame setting copy None old new
   over_same old new law same strange older kept = record {
     kept = kept;
     plain = λ before k. strange;
-    moments = λ before k. subst (λ (j : Journal D g). Leaves (journal_in old.log) j (left_by old.log)) (sym same) (started g.view (disk_in old.log) (left_by old.log) (λ c at. (law c).0 at));
-    grows = λ before k. subst (λ (j : Journal D g). LosesNone (journal_in old.log) j) (sym same) (falls_grow (journal_in old.log) (journal_in old.log) (falls_none g.view (disk_in old.log)));
+    moments = λ before k. subst (λ (j : Journal D g). Leaves (log_journal old.log) j (left_by old.log)) (sym same) (started g.view (disk_in old.log) (left_by old.log) (λ c at. (law c).0 at));
+    grows = λ before k. subst (λ (j : Journal D g). LosesNone (log_journal old.log) j) (sym same) (falls_grow (log_journal old.log) (log_journal old.log) (falls_none g.view (disk_in old.log)));
     grown = λ before since k grown. grants_on setting copy before since old.log new.log old.replica.pass.seen new.replica.pass.seen same older grown;
     seen = older;
     limit = ap (λ (j : Journal D g). limit_of j) same;
   }
 
   -- no more was granted, and the same grant is in hand
-  pub looked : (old new : SiteState g) → LeavesNow (journal_in old.log) → new.log ≡ old.log → new.strange ≡ old.strange → new.replica.hand ≡ old.replica.hand
+  pub looked : (old new : SiteState g) → LeavesNow (log_journal old.log) → new.log ≡ old.log → new.strange ≡ old.strange → new.replica.hand ≡ old.replica.hand
       → grants new.replica.pass.seen copy ≡ grants old.replica.pass.seen copy → IsOlder old.replica.pass.seen new.replica.pass.seen → SiteBecame setting copy None old new
-  looked old new law same strange hand given older = over_same old new law (ap (λ (l : GrantLog D g). journal_in l) same) strange older
+  looked old new law same strange hand given older = over_same old new law (ap (λ (l : GrantLog D g). log_journal l) same) strange older
       (λ before k. subst (λ (l : GrantLog D g). KeepsGranted copy before l new.replica) (sym same) (same_over before old.log _ _ _ _ given hand k))
 
   -- the grant in hand was entered, whose record stands
-  pub entered : (old new : SiteState g) → LeavesNow (journal_in old.log) → IsUp (journal_in old.log) → new.log ≡ old.log → new.strange ≡ old.strange → new.replica.hand ≡ None
+  pub entered : (old new : SiteState g) → LeavesNow (log_journal old.log) → IsUp (log_journal old.log) → new.log ≡ old.log → new.strange ≡ old.strange → new.replica.hand ≡ None
       → grants new.replica.pass.seen copy ≡ grants old.replica.pass.seen copy ++ option_to_list old.replica.hand → IsOlder old.replica.pass.seen new.replica.pass.seen → SiteBecame setting copy None old new
-  entered old new law up same strange none given older = over_same old new law (ap (λ (l : GrantLog D g). journal_in l) same) strange older
+  entered old new law up same strange none given older = over_same old new law (ap (λ (l : GrantLog D g). log_journal l) same) strange older
       (λ before k. subst (λ (l : GrantLog D g). KeepsGranted copy before l new.replica) (sym same)
       (same_over before old.log _ _ None _ given none (entered_over before old.log (grants old.replica.pass.seen copy) old.replica.hand up k)))
 
   -- nothing was written
-  pub wrote_none : (old new : SiteState g) → LeavesNow (journal_in old.log) → (g.view (disk_in new.log)).content ≡ (g.view (disk_in old.log)).content → Leaves (journal_in old.log) (journal_in new.log) (left_by old.log)
-      → Falls (journal_in old.log) (journal_in new.log) → IsOlder old.replica.pass.seen new.replica.pass.seen → SiteWroteNone setting copy old new
+  pub wrote_none : (old new : SiteState g) → LeavesNow (log_journal old.log) → (g.view (disk_in new.log)).content ≡ (g.view (disk_in old.log)).content → Leaves (log_journal old.log) (log_journal new.log) (left_by old.log)
+      → Falls (log_journal old.log) (log_journal new.log) → IsOlder old.replica.pass.seen new.replica.pass.seen → SiteWroteNone setting copy old new
   wrote_none old new law content leaves falls older = record {
     content = content;
     moments = leaves;
@@ -125,14 +125,14 @@ module _ (setting : Setting) (copy : ℕ) {D : Type 0} {g : Ghosts D} where
     grown = λ before since grown. grants_risen setting copy before since old.log new.log new.log old.replica.pass.seen new.replica.pass.seen law leaves falls refl older grown;
   }
 
-  pub fell : (old new : SiteState g) → SiteWroteNone setting copy old new → IsOlder old.replica.pass.seen new.replica.pass.seen → limit_of (journal_in new.log) ≡ limit_of (journal_in old.log)
+  pub fell : (old new : SiteState g) → SiteWroteNone setting copy old new → IsOlder old.replica.pass.seen new.replica.pass.seen → limit_of (log_journal new.log) ≡ limit_of (log_journal old.log)
       → ((before : List (List ℕ)) → KeepsGranted copy before old.log old.replica → KeepsGranted copy before new.log new.replica)
       → ((before : List (List ℕ)) → KeepsGranted copy before old.log old.replica → new.strange ≡ old.strange) → SiteBecame setting copy None old new
   fell old new none older limit kept plain = record {
     kept = kept;
     plain = plain;
     moments = λ before k. none.moments;
-    grows = λ before k. falls_grow (journal_in old.log) (journal_in new.log) none.falls;
+    grows = λ before k. falls_grow (log_journal old.log) (log_journal new.log) none.falls;
     grown = λ before since k grown. none.grown before since grown;
     seen = older;
     limit = limit;
@@ -143,42 +143,42 @@ module _ (setting : Setting) (copy : ℕ) {D : Type 0} {g : Ghosts D} where
     abbrev past : Past
     past = old.replica.pass.seen
 
-    pub wrote : IsImage (g.view (disk_in old.log)).content (left_by old.log) → IsUp (journal_in old.log) → old.log.copies ≡ length setting.base → MayGrant setting past (copy_seat copy) copy grant
-        → ((found : List (List ℕ)) → Keeps (journal_in old.log) found → Leaves (journal_in old.log) (journal_in new.log) (HasOrMore found (grant_body old.log.copies grant)))
-        → ((found : List (List ℕ)) → Keeps (journal_in old.log) found → LosesNone (journal_in old.log) (journal_in new.log))
-        → new.strange ≡ old.strange → new.replica.pass ≡ old.replica.pass → limit_of (journal_in new.log) ≡ limit_of (journal_in old.log)
+    pub wrote : IsImage (g.view (disk_in old.log)).content (left_by old.log) → IsUp (log_journal old.log) → old.log.copies ≡ length setting.base → MayGrant setting past (copy_seat copy) copy grant
+        → ((found : List (List ℕ)) → Keeps (log_journal old.log) found → Leaves (log_journal old.log) (log_journal new.log) (HasOrMore found (grant_body old.log.copies grant)))
+        → ((found : List (List ℕ)) → Keeps (log_journal old.log) found → LosesNone (log_journal old.log) (log_journal new.log))
+        → new.strange ≡ old.strange → new.replica.pass ≡ old.replica.pass → limit_of (log_journal new.log) ≡ limit_of (log_journal old.log)
         → ((before : List (List ℕ)) → KeepsGranted copy before old.log (empty_handed old).replica → KeepsGranted copy before new.log new.replica) → SiteBecame setting copy (Some ask) (empty_handed old) new
     wrote image up copies may leaves grows strange pass limit kept = record {
       kept = kept;
       plain = λ before k. strange;
-      moments = λ before k. (tuple, subst (λ (x : Grant). Leaves (journal_in old.log) (journal_in new.log) (GrowsBy (grant_body (length setting.base) x) (left_by old.log))) is (grew k.keeps));
+      moments = λ before k. (tuple, subst (λ (x : Grant). Leaves (log_journal old.log) (log_journal new.log) (GrowsBy (grant_body (length setting.base) x) (left_by old.log))) is (grew k.keeps));
       grows = λ before k. grows _ k.keeps;
       grown = λ before since k grown. subst (λ (v : View). GrantsGrow setting copy before since new.log v.seen) (sym pass) (grants_written setting copy before past grant may since old.log new.log copies leaves grows k grown);
       seen = subst (λ (v : View). IsOlder past v.seen) (sym pass) ([], refl);
       limit = limit;
     }
       where
-        grew : {found : List (List ℕ)} → Keeps (journal_in old.log) found → Leaves (journal_in old.log) (journal_in new.log) (GrowsBy (grant_body (length setting.base) grant) (left_by old.log))
-        grew {found} k = subst (λ n. Leaves (journal_in old.log) (journal_in new.log) (GrowsBy (grant_body n grant) (left_by old.log))) copies
-            (grew_by (journal_in old.log) (journal_in new.log) (grant_body old.log.copies grant) found k up image (leaves found k))
+        grew : {found : List (List ℕ)} → Keeps (log_journal old.log) found → Leaves (log_journal old.log) (log_journal new.log) (GrowsBy (grant_body (length setting.base) grant) (left_by old.log))
+        grew {found} k = subst (λ n. Leaves (log_journal old.log) (log_journal new.log) (GrowsBy (grant_body n grant) (left_by old.log))) copies
+            (grew_by (log_journal old.log) (log_journal new.log) (grant_body old.log.copies grant) found k up image (leaves found k))
 
   pub none_on : (old mid new : SiteState g) → SiteWroteNone setting copy old mid → new.log ≡ mid.log → IsOlder mid.replica.pass.seen new.replica.pass.seen → SiteWroteNone setting copy old new
   none_on old mid new one same older = record {
     content = ap (λ (l : GrantLog D g). (g.view (disk_in l)).content) same ∙ one.content;
-    moments = subst (λ (l : GrantLog D g). Leaves (journal_in old.log) (journal_in l) (left_by old.log)) (sym same) one.moments;
-    falls = subst (λ (l : GrantLog D g). Falls (journal_in old.log) (journal_in l)) (sym same) one.falls;
-    grown = λ before since grown. grants_on setting copy before since mid.log new.log mid.replica.pass.seen new.replica.pass.seen (ap (λ (l : GrantLog D g). journal_in l) same) older (one.grown before since grown);
+    moments = subst (λ (l : GrantLog D g). Leaves (log_journal old.log) (log_journal l) (left_by old.log)) (sym same) one.moments;
+    falls = subst (λ (l : GrantLog D g). Falls (log_journal old.log) (log_journal l)) (sym same) one.falls;
+    grown = λ before since grown. grants_on setting copy before since mid.log new.log mid.replica.pass.seen new.replica.pass.seen (ap (λ (l : GrantLog D g). log_journal l) same) older (one.grown before since grown);
   }
 
   -- the same pass, and the same grant in hand
-  pub same_pass : (old new : SiteState g) → LeavesNow (journal_in old.log) → new.log ≡ old.log → new.strange ≡ old.strange → new.replica.hand ≡ old.replica.hand → new.replica.pass ≡ old.replica.pass → SiteBecame setting copy None old new
+  pub same_pass : (old new : SiteState g) → LeavesNow (log_journal old.log) → new.log ≡ old.log → new.strange ≡ old.strange → new.replica.hand ≡ old.replica.hand → new.replica.pass ≡ old.replica.pass → SiteBecame setting copy None old new
   same_pass old new law same strange hand pass =
       looked old new law same strange hand (ap (λ (v : View). grants v.seen copy) pass) (subst (λ (v : View). IsOlder old.replica.pass.seen v.seen) (sym pass) ([], refl))
 
-  pub nothing_done : (old : SiteState g) → LeavesNow (journal_in old.log) → SiteBecame setting copy None old old
+  pub nothing_done : (old : SiteState g) → LeavesNow (log_journal old.log) → SiteBecame setting copy None old old
   nothing_done old law = same_pass old old law refl refl refl refl
 
-  pub nothing_written : (old new : SiteState g) → LeavesNow (journal_in old.log) → new.log ≡ old.log → IsOlder old.replica.pass.seen new.replica.pass.seen → SiteWroteNone setting copy old new
+  pub nothing_written : (old new : SiteState g) → LeavesNow (log_journal old.log) → new.log ≡ old.log → IsOlder old.replica.pass.seen new.replica.pass.seen → SiteWroteNone setting copy old new
   nothing_written old new law same older =
       none_on old old new
       (wrote_none old old law refl (started g.view (disk_in old.log) (left_by old.log) (λ c at. (law c).0 at)) (falls_none g.view (disk_in old.log)) ([], refl)) same older
@@ -188,7 +188,7 @@ module _ (setting : Setting) (copy : ℕ) {D : Type 0} {g : Ghosts D} where
   asks ask old new one = record {
     kept = one.kept;
     plain = one.plain;
-    moments = λ before k. (no_tuple, same_moments (journal_in old.log) (journal_in new.log) (grant_body (length setting.base) (grant_with ask no_tuple)) _ k.keeps (one.moments before k));
+    moments = λ before k. (no_tuple, same_moments (log_journal old.log) (log_journal new.log) (grant_body (length setting.base) (grant_with ask no_tuple)) _ k.keeps (one.moments before k));
     grows = one.grows;
     grown = one.grown;
     seen = one.seen;
@@ -197,27 +197,27 @@ module _ (setting : Setting) (copy : ℕ) {D : Type 0} {g : Ghosts D} where
 
   -- TWO CALLS
 
-  some_run : (asked : Option Ask) (old new : GrantLog D g) → GrantMoments setting copy asked old new → Leaves (journal_in old) (journal_in new) (λ c. Unit {0})
+  some_run : (asked : Option Ask) (old new : GrantLog D g) → GrantMoments setting copy asked old new → Leaves (log_journal old) (log_journal new) (λ c. Unit {0})
   some_run None old new run = weakened g.view (disk_in old) (disk_in new) (left_by old) (λ c. Unit {0}) run (λ c left. tt)
   some_run (Some ask) old new run = weakened g.view (disk_in old) (disk_in new) (GrowsBy (grant_body (length setting.base) (grant_with ask run.0)) (left_by old)) (λ c. Unit {0}) run.1 (λ c left. tt)
 
-  first_none : (asked : Option Ask) (old mid new : GrantLog D g) (bodies : List (List ℕ)) → Keeps (journal_in old) bodies → LeavesNow (journal_in mid) → GrantMoments setting copy None old mid → GrantMoments setting copy asked mid new
+  first_none : (asked : Option Ask) (old mid new : GrantLog D g) (bodies : List (List ℕ)) → Keeps (log_journal old) bodies → LeavesNow (log_journal mid) → GrantMoments setting copy None old mid → GrantMoments setting copy asked mid new
       → GrantMoments setting copy asked old new
-  first_none None old mid new bodies k law first run = then_none (journal_in old) (journal_in mid) (journal_in new) (left_by old) law first run
-  first_none (Some ask) old mid new bodies k law first run = (run.0, then_grew (journal_in old) (journal_in mid) (journal_in new) (grant_body (length setting.base) (grant_with ask run.0)) bodies k law first run.1)
+  first_none None old mid new bodies k law first run = then_none (log_journal old) (log_journal mid) (log_journal new) (left_by old) law first run
+  first_none (Some ask) old mid new bodies k law first run = (run.0, then_grew (log_journal old) (log_journal mid) (log_journal new) (grant_body (length setting.base) (grant_with ask run.0)) bodies k law first run.1)
 
-  last_none : (asked : Option Ask) (old mid new : GrantLog D g) → LeavesNow (journal_in mid) → GrantMoments setting copy asked old mid → GrantMoments setting copy None mid new → GrantMoments setting copy asked old new
-  last_none None old mid new law run last = then_none (journal_in old) (journal_in mid) (journal_in new) (left_by old) law run last
-  last_none (Some ask) old mid new law run last = (run.0, then_none (journal_in old) (journal_in mid) (journal_in new) (GrowsBy (grant_body (length setting.base) (grant_with ask run.0)) (left_by old)) law run.1 last)
+  last_none : (asked : Option Ask) (old mid new : GrantLog D g) → LeavesNow (log_journal mid) → GrantMoments setting copy asked old mid → GrantMoments setting copy None mid new → GrantMoments setting copy asked old new
+  last_none None old mid new law run last = then_none (log_journal old) (log_journal mid) (log_journal new) (left_by old) law run last
+  last_none (Some ask) old mid new law run last = (run.0, then_none (log_journal old) (log_journal mid) (log_journal new) (GrowsBy (grant_body (length setting.base) (grant_with ask run.0)) (left_by old)) law run.1 last)
 
   -- the first wrote nothing
-  pub became_on : (asked : Option Ask) (old mid new : SiteState g) → LeavesNow (journal_in mid.log) → SiteBecame setting copy None old mid → SiteBecame setting copy asked mid new → SiteBecame setting copy asked old new
+  pub became_on : (asked : Option Ask) (old mid new : SiteState g) → LeavesNow (log_journal mid.log) → SiteBecame setting copy None old mid → SiteBecame setting copy asked mid new → SiteBecame setting copy asked old new
   became_on asked old mid new law one two = record {
     kept = λ before k. two.kept before (one.kept before k);
     plain = λ before k. two.plain before (one.kept before k) ∙ one.plain before k;
     moments = λ before k. first_none asked old.log mid.log new.log _ k.keeps law (one.moments before k) (two.moments before (one.kept before k));
     grows = λ before k.
-        loses_none_on (journal_in old.log) (journal_in mid.log) (journal_in new.log) (left_by old.log) (λ c. Unit {0}) (one.moments before k)
+        loses_none_on (log_journal old.log) (log_journal mid.log) (log_journal new.log) (left_by old.log) (λ c. Unit {0}) (one.moments before k)
         (some_run asked mid.log new.log (two.moments before (one.kept before k))) (one.grows before k) (two.grows before (one.kept before k));
     grown = λ before since k grown. two.grown before since (one.kept before k) (one.grown before since k grown);
     seen = older_trans old.replica.pass.seen mid.replica.pass.seen new.replica.pass.seen one.seen two.seen;
@@ -225,13 +225,13 @@ module _ (setting : Setting) (copy : ℕ) {D : Type 0} {g : Ghosts D} where
   }
 
   -- the last wrote nothing
-  pub became_last : (asked : Option Ask) (old mid new : SiteState g) → LeavesNow (journal_in mid.log) → SiteBecame setting copy asked old mid → SiteBecame setting copy None mid new → SiteBecame setting copy asked old new
+  pub became_last : (asked : Option Ask) (old mid new : SiteState g) → LeavesNow (log_journal mid.log) → SiteBecame setting copy asked old mid → SiteBecame setting copy None mid new → SiteBecame setting copy asked old new
   became_last asked old mid new law one two = record {
     kept = λ before k. two.kept before (one.kept before k);
     plain = λ before k. two.plain before (one.kept before k) ∙ one.plain before k;
     moments = λ before k. last_none asked old.log mid.log new.log law (one.moments before k) (two.moments before (one.kept before k));
     grows = λ before k.
-        loses_none_on (journal_in old.log) (journal_in mid.log) (journal_in new.log) (λ c. Unit {0}) (left_by mid.log) (some_run asked old.log mid.log (one.moments before k))
+        loses_none_on (log_journal old.log) (log_journal mid.log) (log_journal new.log) (λ c. Unit {0}) (left_by mid.log) (some_run asked old.log mid.log (one.moments before k))
         (two.moments before (one.kept before k)) (one.grows before k) (two.grows before (one.kept before k));
     grown = λ before since k grown. two.grown before since (one.kept before k) (one.grown before since k grown);
     seen = older_trans old.replica.pass.seen mid.replica.pass.seen new.replica.pass.seen one.seen two.seen;
@@ -239,8 +239,8 @@ module _ (setting : Setting) (copy : ℕ) {D : Type 0} {g : Ghosts D} where
   }
 
   -- the copy looked, and its disk was read
-  pub compared : (old new : SiteState g) (now : Standing) → LeavesNow (journal_in old.log) → now.hand ≡ old.replica.hand → grants now.pass.seen copy ≡ grants old.replica.pass.seen copy → IsOlder old.replica.pass.seen now.pass.seen
-      → (g.view (disk_in new.log)).content ≡ (g.view (disk_in old.log)).content → Leaves (journal_in old.log) (journal_in new.log) (left_by old.log) → Falls (journal_in old.log) (journal_in new.log) → limit_of (journal_in new.log) ≡ limit_of (journal_in old.log)
+  pub compared : (old new : SiteState g) (now : Standing) → LeavesNow (log_journal old.log) → now.hand ≡ old.replica.hand → grants now.pass.seen copy ≡ grants old.replica.pass.seen copy → IsOlder old.replica.pass.seen now.pass.seen
+      → (g.view (disk_in new.log)).content ≡ (g.view (disk_in old.log)).content → Leaves (log_journal old.log) (log_journal new.log) (left_by old.log) → Falls (log_journal old.log) (log_journal new.log) → limit_of (log_journal new.log) ≡ limit_of (log_journal old.log)
       → new.replica.pass ≡ now.pass → ((before : List (List ℕ)) → KeepsGranted copy before old.log now → KeepsGranted copy before new.log new.replica)
       → ((before : List (List ℕ)) → KeepsGranted copy before old.log now → new.strange ≡ old.strange) → SiteBecame setting copy None old new × SiteWroteNone setting copy old new
   compared old new now law hand given older content leaves falls limit pass kept plain =

@@ -18,9 +18,9 @@ use Rattle.qc_journal.specs.declared.fault.Fault.TheVariants as journal
 use Rattle.qc_ledger.specs.Image.{IsFirstFault}
 use Rattle.qc_ledger.specs.Refusing.{IsOfWriting}
 use Rattle.qc_ledger.proofs.Mounts.{first_told}
-use Rattle.qc_site.specs.Image.{AreMadeFor, IsFault}
+use Rattle.qc_site.specs.Image.{AreMadeFor, IsCopyFault}
 use Rattle.qc_site.specs.Reading.{IsFirstBad, IsLaterBad}
-use Rattle.qc_site.specs.Refusing.{mount_no, IsImage, IsOfBytes, IsCopyRefusal}
+use Rattle.qc_site.specs.Refusing.{copy_mount_no, IsOfCopyImage, IsOfBytes, IsCopyRefusal}
 use Rattle.qc_event.specs.declared.short.Short.TheVariants as short
 use Rattle.qc_site.specs.declared.fault.SiteNo.{SiteNo}
 use Rattle.qc_site.specs.declared.fault.SiteNo.TheVariants.{Disk, Image, Strange, Short}
@@ -48,22 +48,22 @@ module _ (copy : ℕ) where
   handed_on (Ok x) fault P Q also same is = tt
   handed_on (Err e) fault P Q also same is = subst (IsOfBytes copy Q) (sym same) (bytes_also P Q also fault is)
 
-  image_of_bytes : (P Q : ImageFault → Type 0) → ((f : ImageFault) → P f → Q f) → (fault : SiteNo) → IsOfBytes copy P fault → IsImage copy Q fault
+  image_of_bytes : (P Q : ImageFault → Type 0) → ((f : ImageFault) → P f → Q f) → (fault : SiteNo) → IsOfBytes copy P fault → IsOfCopyImage copy Q fault
   image_of_bytes P Q also Disk is = tt
   image_of_bytes P Q also (Image bad) is = (is.0, also bad.fault is.1)
   image_of_bytes P Q also Strange is = is
   image_of_bytes P Q also (Short short.Memory) is = tt
   image_of_bytes P Q also (Short short.Room) is = is
 
-  pub passed_on : {T : Type 0} (r : Result T SiteNo) (fault : SiteNo) (P Q : ImageFault → Type 0) → ((f : ImageFault) → P f → Q f) → IsErrAnd r (λ e. e ≡ fault) → IsOfBytes copy P fault → IfErr r (IsImage copy Q)
+  pub passed_on : {T : Type 0} (r : Result T SiteNo) (fault : SiteNo) (P Q : ImageFault → Type 0) → ((f : ImageFault) → P f → Q f) → IsErrAnd r (λ e. e ≡ fault) → IsOfBytes copy P fault → IfErr r (IsOfCopyImage copy Q)
   passed_on (Ok x) fault P Q also same is = tt
-  passed_on (Err e) fault P Q also same is = subst (IsImage copy Q) (sym same) (image_of_bytes P Q also fault is)
+  passed_on (Err e) fault P Q also same is = subst (IsOfCopyImage copy Q) (sym same) (image_of_bytes P Q also fault is)
 
   pub no_disk : {T : Type 0} (r : Result T SiteNo) (fault : SiteNo) (P : ImageFault → Type 0) → IsErrAnd r (λ e. e ≡ fault) → IsOfBytes copy P fault → IsErrOf r Disk → ⊥
   no_disk (Ok x) fault P same is of = absurd cc
   no_disk (Err e) fault P same is of = let one : e ≡ Disk = cc in subst (IsOfBytes copy P) (sym same ∙ one) is
 
-  image_also : (P Q : ImageFault → Type 0) → ((f : ImageFault) → P f → Q f) → (fault : SiteNo) → IsImage copy P fault → IsImage copy Q fault
+  image_also : (P Q : ImageFault → Type 0) → ((f : ImageFault) → P f → Q f) → (fault : SiteNo) → IsOfCopyImage copy P fault → IsOfCopyImage copy Q fault
   image_also P Q also Disk is = tt
   image_also P Q also (Image bad) is = (is.0, also bad.fault is.1)
   image_also P Q also Strange is = is
@@ -71,7 +71,7 @@ module _ (copy : ℕ) where
   image_also P Q also (Short short.Room) is = is
 
   -- a fault of writing is that there is no room, or one of the disk or the memory
-  pub write_refusal : (P : ImageFault → Type 0) (fault : Fault) → IsOfWriting fault → ((place : ℕ) → fault ≡ journal.Full place → P (Full place)) → IsImage copy P (mount_no copy fault)
+  pub write_refusal : (P : ImageFault → Type 0) (fault : Fault) → IsOfWriting fault → ((place : ℕ) → fault ≡ journal.Full place → P (Full place)) → IsOfCopyImage copy P (copy_mount_no copy fault)
   write_refusal P journal.Disk of full = tt
   write_refusal P (journal.Broken place) of full = absurd of
   write_refusal P (journal.Full place) of full = (refl, full place refl)
@@ -80,7 +80,7 @@ module _ (copy : ℕ) where
   -- THE FIRST
 
   module _ (table : Table) (past : Past) (limit : ℕ) where
-    pub first_fault : (first : List ℕ) (bodies rest : List (List ℕ)) → bodies ≡ first ∷ rest → (f : ImageFault) → IsFirstBad copy table past first f → IsFault copy table past limit bodies f
+    pub first_fault : (first : List ℕ) (bodies rest : List (List ℕ)) → bodies ≡ first ∷ rest → (f : ImageFault) → IsFirstBad copy table past first f → IsCopyFault copy table past limit bodies f
     first_fault first bodies rest is (Broken place) bad = bad
     first_fault first bodies rest is (Grammar index) bad = (
       record { before = []; after = rest; item = first; split = is; size = bad.0; order = each_none (MayStand copy table past); breaks = bad.1 },
@@ -90,7 +90,7 @@ module _ (copy : ℕ) where
     first_fault first bodies rest is (OtherTable kept asked) bad = (bad.0, bad.1, (λ none. let two : first ∷ rest ≡ [] = sym is ∙ none in absurd cc), subst (AreMadeFor copy kept) (sym is) bad.2)
     first_fault first bodies rest is (Epoch epoch) bad = bad
 
-    pub later_fault : (bodies : List (List ℕ)) → AreMadeFor copy table bodies → (f : ImageFault) → IsLaterBad copy table past bodies f → IsFault copy table past limit bodies f
+    pub later_fault : (bodies : List (List ℕ)) → AreMadeFor copy table bodies → (f : ImageFault) → IsLaterBad copy table past bodies f → IsCopyFault copy table past limit bodies f
     later_fault bodies made (Broken place) bad = bad
     later_fault bodies made (Grammar index) bad = (bad.1, λ other. made)
     later_fault bodies made (Full place) bad = absurd bad
@@ -98,7 +98,7 @@ module _ (copy : ℕ) where
     later_fault bodies made (Epoch epoch) bad = bad
 
     -- the journal's fault is the image's first
-    pub mount_refusal : (told : Option (List ℕ)) (fault : Fault) → IsOfReading fault → ((place : ℕ) → fault ≡ journal.Broken place → IfSome told (IsBroken place)) → IsCopyRefusal copy table past limit told (mount_no copy fault)
+    pub mount_refusal : (told : Option (List ℕ)) (fault : Fault) → IsOfReading fault → ((place : ℕ) → fault ≡ journal.Broken place → IfSome told (IsBroken place)) → IsCopyRefusal copy table past limit told (copy_mount_no copy fault)
     mount_refusal told journal.Disk of broken = tt
     mount_refusal told (journal.Broken place) of broken = (refl, broken place refl)
     mount_refusal told (journal.Full place) of broken = absurd of
@@ -106,7 +106,7 @@ module _ (copy : ℕ) where
 
     -- a fault of the bodies is the image's first
     pub begin_refusal : (K : Type 0) (told : Option (List ℕ)) (kept : ℕ) (bodies : List (List ℕ)) → kept ≡ limit → IfSome told (HasRecords bodies) → (IsSome told → K) → (fault : SiteNo)
-        → IsImage copy (λ f. K → IsFault copy table past kept bodies f) fault → IsCopyRefusal copy table past limit told fault
+        → IsOfCopyImage copy (λ f. K → IsCopyFault copy table past kept bodies f) fault → IsCopyRefusal copy table past limit told fault
     begin_refusal K told kept bodies same has keeps refused is =
-        image_also (λ f. K → IsFault copy table past kept bodies f) (λ f. IfSome told (IsFirstFault (IsFault copy table past limit) f))
-        (λ f at. first_told (IsFault copy table past limit) bodies (λ place broken. broken) told f has (λ some. subst (λ n. IsFault copy table past n bodies f) same (at (keeps some)))) refused is
+        image_also (λ f. K → IsCopyFault copy table past kept bodies f) (λ f. IfSome told (IsFirstFault (IsCopyFault copy table past limit) f))
+        (λ f at. first_told (IsCopyFault copy table past limit) bodies (λ place broken. broken) told f has (λ some. subst (λ n. IsCopyFault copy table past n bodies f) same (at (keeps some)))) refused is

@@ -6,7 +6,7 @@ use Rattle.qc_site.specs.declared.back.BackNo.{BackNo}
 use Rattle.qc_disk.specs.Disk.{IsImage}
 use Rattle.qc_disk.specs.declared.disk.Disk.{Ghosts}
 use Rattle.qc_journal.specs.Image.{HasRecords, IsBroken}
-use Rattle.qc_journal.specs.Journal.{in_hand, IsUp, Keeps, Stands}
+use Rattle.qc_journal.specs.Journal.{in_hand, IsUp, Keeps, ImageStands}
 use Rattle.qc_journal.specs.declared.journal.Journal.{Journal}
 use Rattle.qc_journal.proofs.Readings.{records-same, records_not_broken}
 use Rattle.qc_ledger.proofs.Writing.{up_hand}
@@ -16,14 +16,14 @@ use Rattle.qc_site.specs.Back.{WereFound, IsLeft, Says}
 pub nothing_in_hand : {D : Type 0} {g : Ghosts D} (journal : Journal D g) → IsUp journal → in_hand journal ≡ None
 nothing_in_hand journal up = up_hand journal.state up
 
-pub found_by : (place : ℕ) (bodies found : List (List ℕ)) (hand : Option (List ℕ)) (image : List ℕ) → Stands place bodies hand image → HasRecords found image → WereFound bodies hand found
+pub found_by : (place : ℕ) (bodies found : List (List ℕ)) (hand : Option (List ℕ)) (image : List ℕ) → ImageStands place bodies hand image → HasRecords found image → WereFound bodies hand found
 found_by place bodies found None image stands has = inl (records-same image bodies found (inr (place, stands)) has)
 found_by place bodies found (Some body) image (inl stands) has = inl (records-same image bodies found (inr (place, stands)) has)
 found_by place bodies found (Some body) image (inr stands) has = inr (records-same image (bodies ++ body ∷ []) found (inr (_, stands)) has)
 
 module _ {D : Type 0} {g : Ghosts D} (old : Journal D g) (bodies : List (List ℕ)) (k : Keeps old bodies) (law : IsImage (g.view old.disk).content (g.view old.disk).may_leave) where
   -- the bytes that are told stand as each image does
-  pub told_stands : Stands old.place bodies (in_hand old) k.bytes
+  pub told_stands : ImageStands old.place bodies (in_hand old) k.bytes
   told_stands = k.each k.bytes (subst (λ o. IsImage o (g.view old.disk).may_leave) k.told law)
 
   abbrev pub left_found : (new : Journal D g) (found : List (List ℕ)) → IfSome (g.view old.disk).content (HasRecords found) → IsUp new → Keeps new found → IsLeft old new bodies
@@ -34,7 +34,7 @@ module _ {D : Type 0} {g : Ghosts D} (old : Journal D g) (bodies : List (List �
     hand = inl (nothing_in_hand new up);
   }
 
-stands_records : (place : ℕ) (bodies : List (List ℕ)) (hand : Option (List ℕ)) (image : List ℕ) → Stands place bodies hand image → (records : List (List ℕ)) × HasRecords records image
+stands_records : (place : ℕ) (bodies : List (List ℕ)) (hand : Option (List ℕ)) (image : List ℕ) → ImageStands place bodies hand image → (records : List (List ℕ)) × HasRecords records image
 stands_records place bodies None image stands = (bodies, inr (place, stands))
 stands_records place bodies (Some body) image (inl stands) = (bodies, inr (place, stands))
 stands_records place bodies (Some body) image (inr stands) = (bodies ++ body ∷ [], inr (_, stands))

@@ -27,7 +27,7 @@ use Rattle.qc_event.specs.Base.{Setting}
 use Rattle.qc_event.specs.History.{Past, Name, grants, grant_at, grant_in}
 use Rattle.qc_event.specs.Legal.{Legal}
 use Rattle.qc_event.specs.Seats.{copy_seat}
-use Rattle.qc_moss.specs.Follows.{Follows}
+use Rattle.qc_moss.specs.Follows.{TableFollows}
 use Rattle.qc_moss.specs.Locks.{Table, granted_to, unheld}
 use Rattle.qc_moss.proofs.Tables.{granted, grows, starts}
 use Rattle.qc_desk.specs.declared.view.View.{View}
@@ -62,7 +62,7 @@ module _ (setting : Setting) (copy : ℕ) (v w : View) (legal : Legal setting w.
   pub table_on : (start : List Tuple) (t : Table) → IsTableOf start v.seen copy t → IsTableOf start w.seen copy t
   table_on start t was = record {
     same_start = was.same_start;
-    follows = subst (λ gs. Follows w.seen gs t) (sym same_grants) (subst (λ p. Follows p (grants v.seen copy) t) (sym more.seen) (follows_more more.newer v.seen (grants v.seen copy) t was.follows));
+    follows = subst (λ gs. TableFollows w.seen gs t) (sym same_grants) (subst (λ p. TableFollows p (grants v.seen copy) t) (sym more.seen) (follows_more more.newer v.seen (grants v.seen copy) t was.follows));
   }
 
   pub may_on : (g : Grant) → MayGrant setting v.seen (copy_seat copy) copy g → MayGrant setting w.seen (copy_seat copy) copy g
@@ -162,10 +162,10 @@ module _ (setting : Setting) (copy : ℕ) (v w : View) (g : Grant) (start : List
   pub table_granted : (t new : Table) → g.rec < length t.held → new ≡ granted_to t g.access g.rec g.op → IsTableOf start v.seen copy t → IsTableOf start w.seen copy new
   table_granted t new within is was =
       let on = table_on setting copy v mid (subst (Legal setting) seen legal).0 first start t was in
-      let so_far : Follows w.seen (grants enters.0 copy) t = subst (λ p. Follows p (grants enters.0 copy) t) (sym seen) (grows enters.0 e (grants enters.0 copy) t on.follows) in
+      let so_far : TableFollows w.seen (grants enters.0 copy) t = subst (λ p. TableFollows p (grants enters.0 copy) t) (sym seen) (grows enters.0 e (grants enters.0 copy) t on.follows) in
       subst (IsTableOf start w.seen copy) (sym is) record {
         same_start = was.same_start;
-        follows = subst (λ gs. Follows w.seen gs (granted_to t g.access g.rec g.op)) (sym now_grants) (granted w.seen (grants enters.0 copy) t g within so_far);
+        follows = subst (λ gs. TableFollows w.seen gs (granted_to t g.access g.rec g.op)) (sym now_grants) (granted w.seen (grants enters.0 copy) t g within so_far);
       }
 
   pub kept_granted : IsKnown setting w → (locks new : Option Table) → IfSome new (IsTableOf start w.seen copy) → IsKept setting copy v start locks (Some g) → IsKept setting copy w start new None
@@ -223,7 +223,7 @@ table_reserved start past copy t new is was = subst (IsTableOf start past copy) 
 pub table_unheld : (start : List Tuple) (past : Past) (copy : ℕ) → grants past copy ≡ [] → IsTableOf start past copy (unheld start)
 table_unheld start past copy nothing = record {
   same_start = refl;
-  follows = subst (λ gs. Follows past gs (unheld start)) (sym nothing) (starts past start);
+  follows = subst (λ gs. TableFollows past gs (unheld start)) (sym nothing) (starts past start);
 }
 
 -- a free request may be granted what it is told

@@ -18,7 +18,7 @@ use Rattle.qc_ledger.proofs.Writing.{kept_has}
 use Rattle.qc_desk.specs.Entries.{IsOlder}
 use Rattle.qc_desk.proofs.Seers.{older_trans}
 use Rattle.qc_site.specs.Back.{grant_body}
-use Rattle.qc_site.specs.Log.{IsOver, journal_in}
+use Rattle.qc_site.specs.Log.{IsOver, log_journal}
 use Rattle.qc_site.specs.Since.{AreGrantsBy, GrantsGrow}
 use Rattle.qc_site.specs.declared.log.GrantLog.{GrantLog}
 
@@ -53,12 +53,12 @@ module _ (setting : Setting) (copy : ℕ) (before : List (List ℕ)) (past : Pas
 
   -- a grant's record is written that may be made next
   pub grants_written : {D : Type 0} {g : Ghosts D} (since : ℕ) (old new : GrantLog D g) → old.copies ≡ length setting.base
-      → ((found : List (List ℕ)) → Keeps (journal_in old) found → Leaves (journal_in old) (journal_in new) (HasOrMore found (grant_body old.copies grant)))
-      → ((found : List (List ℕ)) → Keeps (journal_in old) found → LosesNone (journal_in old) (journal_in new))
+      → ((found : List (List ℕ)) → Keeps (log_journal old) found → Leaves (log_journal old) (log_journal new) (HasOrMore found (grant_body old.copies grant)))
+      → ((found : List (List ℕ)) → Keeps (log_journal old) found → LosesNone (log_journal old) (log_journal new))
       → IsOver before old (grants past copy) None → GrantsGrow setting copy before since old past → GrantsGrow setting copy before since new past
   grants_written {D} {g} since old new copies leaves grows over grown =
-      grown_on since before g.view (disk_of (journal_in old)) (disk_of (journal_in new)) (AreGrantsBy setting copy past) (AreGrantsBy setting copy past) (HasOrMore found (grant_body (length setting.base) grant)) (λ more m. m) written_has
-      (subst (λ n. Leaves (journal_in old) (journal_in new) (HasOrMore found (grant_body n grant))) copies (leaves found keeps)) (grows found keeps) grown
+      grown_on since before g.view (disk_of (log_journal old)) (disk_of (log_journal new)) (AreGrantsBy setting copy past) (AreGrantsBy setting copy past) (HasOrMore found (grant_body (length setting.base) grant)) (λ more m. m) written_has
+      (subst (λ n. Leaves (log_journal old) (log_journal new) (HasOrMore found (grant_body n grant))) copies (leaves found keeps)) (grows found keeps) grown
     where
       found : List (List ℕ)
       found = before ++ write (grants past copy)
@@ -66,16 +66,16 @@ module _ (setting : Setting) (copy : ℕ) (before : List (List ℕ)) (past : Pas
       none : over.rest ≡ []
       none = elim over.is_hand [ inl is ↦ is | inr is ↦ is ]
 
-      keeps : Keeps (journal_in old) found
-      keeps = subst (λ gs. Keeps (journal_in old) (before ++ write gs)) (ap (λ r. grants past copy ++ r) none ∙ append-nil (grants past copy)) (subst (λ n. Keeps (journal_in old) (before ++ map (grant_body n) (grants past copy ++ over.rest))) copies over.keeps)
+      keeps : Keeps (log_journal old) found
+      keeps = subst (λ gs. Keeps (log_journal old) (before ++ write gs)) (ap (λ r. grants past copy ++ r) none ∙ append-nil (grants past copy)) (subst (λ n. Keeps (log_journal old) (before ++ map (grant_body n) (grants past copy ++ over.rest))) copies over.keeps)
 
 module _ {D : Type 0} {g : Ghosts D} (setting : Setting) (copy : ℕ) (before : List (List ℕ)) (since : ℕ) where
   -- more was seen
   pub grants_seen : (log : GrantLog D g) (past now : Past) → IsOlder past now → GrantsGrow setting copy before since log past → GrantsGrow setting copy before since log now
-  grants_seen log past now older grown = grown_more since before (AreGrantsBy setting copy past) (AreGrantsBy setting copy now) (g.view (disk_of (journal_in log))) (λ bodies are. grants_later setting copy past now bodies older are) grown
+  grants_seen log past now older grown = grown_more since before (AreGrantsBy setting copy past) (AreGrantsBy setting copy now) (g.view (disk_of (log_journal log))) (λ bodies are. grants_later setting copy past now bodies older are) grown
 
   -- over the same journal, with more seen
-  pub grants_on : (old new : GrantLog D g) (past now : Past) → journal_in new ≡ journal_in old → IsOlder past now → GrantsGrow setting copy before since old past → GrantsGrow setting copy before since new now
+  pub grants_on : (old new : GrantLog D g) (past now : Past) → log_journal new ≡ log_journal old → IsOlder past now → GrantsGrow setting copy before since old past → GrantsGrow setting copy before since new now
   grants_on old new past now same older grown = grants_seen new past now older (subst (λ (j : Journal D g). GrownSince since before (AreGrantsBy setting copy past) (g.view (disk_of j))) (sym same) grown)
 
   -- a journal that has the records from before it, and no others
@@ -87,7 +87,7 @@ module _ {D : Type 0} {g : Ghosts D} (setting : Setting) (copy : ℕ) (before : 
       none = record { earlier = []; older = (past, sym (append-nil past)); untold = None; may = tt; given = []; these = inl refl; are = refl }
 
   -- brought up, and then over the same journal
-  pub grants_risen : (old mid new : GrantLog D g) (past now : Past) → ((c : List ℕ) → (g.view (disk_of (journal_in old))).left_at (g.view (disk_of (journal_in old))).moment c ↔ (g.view (disk_of (journal_in old))).may_leave c)
-      → Leaves (journal_in old) (journal_in mid) (g.view (disk_of (journal_in old))).may_leave → Falls (journal_in old) (journal_in mid) → journal_in new ≡ journal_in mid → IsOlder past now
+  pub grants_risen : (old mid new : GrantLog D g) (past now : Past) → ((c : List ℕ) → (g.view (disk_of (log_journal old))).left_at (g.view (disk_of (log_journal old))).moment c ↔ (g.view (disk_of (log_journal old))).may_leave c)
+      → Leaves (log_journal old) (log_journal mid) (g.view (disk_of (log_journal old))).may_leave → Falls (log_journal old) (log_journal mid) → log_journal new ≡ log_journal mid → IsOlder past now
       → GrantsGrow setting copy before since old past → GrantsGrow setting copy before since new now
-  grants_risen old mid new past now law run falls same older grown = grants_on mid new past now same older (grown_falls since before g.view (disk_of (journal_in old)) (disk_of (journal_in mid)) (AreGrantsBy setting copy past) law run falls grown)
+  grants_risen old mid new past now law run falls same older grown = grants_on mid new past now same older (grown_falls since before g.view (disk_of (log_journal old)) (disk_of (log_journal mid)) (AreGrantsBy setting copy past) law run falls grown)

@@ -15,7 +15,7 @@ use Rattle.qc_codec.proofs.Order.{in_order, same_index}
 use Rattle.qc_journal.specs.Image.{HasRecords}
 use Rattle.qc_ledger.specs.Image.{IsFirstFault}
 use Rattle.qc_ledger.proofs.Verdicts.{first_is_one, first_or_else, same_place}
-use Rattle.qc_site.specs.Image.{AreMadeFor, AreMountable, IsFault}
+use Rattle.qc_site.specs.Image.{AreMadeFor, AreMountableAsCopy, IsCopyFault}
 
 module _ (copy : ℕ) where
   same_table : (bodies : List (List ℕ)) (t k : Table) → bodies ≢ [] → AreMadeFor copy t bodies → AreMadeFor copy k bodies → k ≡ t
@@ -45,7 +45,7 @@ module _ (copy : ℕ) where
     ]
 
     module _ (limit : ℕ) where
-      pub one_fault : (bodies : List (List ℕ)) (f other : ImageFault) → IsFault copy table past limit bodies f → IsFault copy table past limit bodies other → other ≡ f
+      pub one_fault : (bodies : List (List ℕ)) (f other : ImageFault) → IsCopyFault copy table past limit bodies f → IsCopyFault copy table past limit bodies other → other ≡ f
       one_fault bodies (Broken p) other one two = absurd one
       one_fault bodies (Epoch e) other one two = absurd one
       one_fault bodies (Grammar i) (Broken p) one two = absurd two
@@ -64,15 +64,15 @@ module _ (copy : ℕ) where
       one_fault bodies (Full p) (OtherTable kept asked) one two = absurd (two.1 (same_table bodies table kept two.2 one.0.made two.3))
       one_fault bodies (Full p) (Full q) one two = ap Full (same_place limit bodies _ p q one.1 two.1)
 
-      pub fault_or_none : (bodies : List (List ℕ)) (f : ImageFault) → IsFault copy table past limit bodies f → AreMountable copy table past limit bodies → ⊥
+      pub fault_or_none : (bodies : List (List ℕ)) (f : ImageFault) → IsCopyFault copy table past limit bodies f → AreMountableAsCopy copy table past limit bodies → ⊥
       fault_or_none bodies (Broken p) one fine = one
       fault_or_none bodies (Epoch e) one fine = one
       fault_or_none bodies (Grammar i) one fine = in_order (MayStand copy table past) bodies i one.0 fine.granted.order
       fault_or_none bodies (OtherTable kept asked) one fine = one.1 (same_table bodies table kept one.2 fine.granted.made one.3)
       fault_or_none bodies (Full p) one fine = fine.room p one.1
 
-      pub one_first : (image : List ℕ) (f other : ImageFault) → IsFirstFault (IsFault copy table past limit) f image → IsFirstFault (IsFault copy table past limit) other image → other ≡ f
-      one_first image f other one two = first_is_one (IsFault copy table past limit) image one_fault f other one two
+      pub one_first : (image : List ℕ) (f other : ImageFault) → IsFirstFault (IsCopyFault copy table past limit) f image → IsFirstFault (IsCopyFault copy table past limit) other image → other ≡ f
+      one_first image f other one two = first_is_one (IsCopyFault copy table past limit) image one_fault f other one two
 
-      pub first_or_none : (image : List ℕ) (f : ImageFault) (bodies : List (List ℕ)) → IsFirstFault (IsFault copy table past limit) f image → HasRecords bodies image → AreMountable copy table past limit bodies → ⊥
-      first_or_none image f bodies is has fine = first_or_else (IsFault copy table past limit) image bodies f has (λ fault. fault_or_none bodies f fault fine) is
+      pub first_or_none : (image : List ℕ) (f : ImageFault) (bodies : List (List ℕ)) → IsFirstFault (IsCopyFault copy table past limit) f image → HasRecords bodies image → AreMountableAsCopy copy table past limit bodies → ⊥
+      first_or_none image f bodies is has fine = first_or_else (IsCopyFault copy table past limit) image bodies f has (λ fault. fault_or_none bodies f fault fine) is

@@ -13,7 +13,7 @@ use Rattle.qc_desk.specs.declared.store.Store.{Ghosts as Desk}
 use Rattle.qc_desk.specs.declared.view.View.{View}
 use Rattle.qc_desk.specs.Entries.{IsOlder}
 use Rattle.qc_site.specs.AtDesk.{IsGranted}
-use Rattle.qc_site.specs.Log.{journal_in}
+use Rattle.qc_site.specs.Log.{log_journal}
 use Rattle.qc_site.specs.Replica.{Standing}
 use Rattle.qc_site.specs.Since.{GrantsGrow}
 use Rattle.qc_site.specs.Sites.{AnswerEnters, GrowsByGrant, IsFullFor, KeepsGranted}
@@ -43,8 +43,8 @@ module _ (setting : Setting) (copy : ℕ) {D : Type 0} {g : Ghosts D} where
   -- A crash at any moment of a call leaves an image from before it, or the records of one and behind them that of a grant of
   -- what was asked.
   abbrev pub GrantMoments : Option Ask → GrantLog D g → GrantLog D g → Type 0
-  GrantMoments None old new = Leaves (journal_in old) (journal_in new) (g.view (disk_of (journal_in old))).may_leave
-  GrantMoments (Some ask) old new = GrowsByGrant (length setting.base) ask (journal_in old) (journal_in new)
+  GrantMoments None old new = Leaves (log_journal old) (log_journal new) (g.view (disk_of (log_journal old))).may_leave
+  GrantMoments (Some ask) old new = GrowsByGrant (length setting.base) ask (log_journal old) (log_journal new)
 
   -- What a call leaves, which writes a grant of what was asked, or nothing. Where the disk tells its bytes, each image goes on
   -- to keep what the copy granted and at most the grant in hand, none loses a record, and nothing turns strange. Since a
@@ -53,18 +53,18 @@ module _ (setting : Setting) (copy : ℕ) {D : Type 0} {g : Ghosts D} where
     pub kept : (before : List (List ℕ)) → KeepsGranted copy before old.log old.replica → KeepsGranted copy before new.log new.replica
     pub plain : (before : List (List ℕ)) → KeepsGranted copy before old.log old.replica → new.strange ≡ old.strange
     pub moments : (before : List (List ℕ)) → KeepsGranted copy before old.log old.replica → GrantMoments asked old.log new.log
-    pub grows : (before : List (List ℕ)) → KeepsGranted copy before old.log old.replica → LosesNone (journal_in old.log) (journal_in new.log)
+    pub grows : (before : List (List ℕ)) → KeepsGranted copy before old.log old.replica → LosesNone (log_journal old.log) (log_journal new.log)
     pub grown : (before : List (List ℕ)) (since : ℕ) → KeepsGranted copy before old.log old.replica
         → GrantsGrow setting copy before since old.log old.replica.pass.seen → GrantsGrow setting copy before since new.log new.replica.pass.seen
     pub seen : IsOlder old.replica.pass.seen new.replica.pass.seen
-    pub limit : limit_of (journal_in new.log) ≡ limit_of (journal_in old.log)
+    pub limit : limit_of (log_journal new.log) ≡ limit_of (log_journal old.log)
 
   -- Whatever the disk tells, nothing was written: it goes on to tell what it told, and of what a crash may leave some falls
   -- away.
   pub record SiteWroteNone (old new : SiteState g) : Type 0 where
-    pub content : (g.view (disk_of (journal_in new.log))).content ≡ (g.view (disk_of (journal_in old.log))).content
+    pub content : (g.view (disk_of (log_journal new.log))).content ≡ (g.view (disk_of (log_journal old.log))).content
     pub moments : GrantMoments None old.log new.log
-    pub falls : Falls (journal_in old.log) (journal_in new.log)
+    pub falls : Falls (log_journal old.log) (log_journal new.log)
     pub grown : (before : List (List ℕ)) (since : ℕ)
         → GrantsGrow setting copy before since old.log old.replica.pass.seen → GrantsGrow setting copy before since new.log new.replica.pass.seen
 

@@ -30,14 +30,14 @@ pub record AreGranted (copy : ℕ) (table : Table) (past : Past) (bodies : List 
 
 module _ (copy : ℕ) (table : Table) (past : Past) (limit : ℕ) where
   -- the first fault that bodies have
-  abbrev pub IsFault : List (List ℕ) → ImageFault → Type 0
-  IsFault bodies (Broken place) = ⊥
-  IsFault bodies (Grammar index) = IsOutOfOrder copy table past index bodies × (index ≢ 0 → AreMadeFor copy table bodies)
-  IsFault bodies (OtherTable kept asked) = (asked ≡ table) × (kept ≢ table) × (bodies ≢ []) × AreMadeFor copy kept bodies
-  IsFault bodies (Epoch epoch) = ⊥
-  IsFault bodies (Full place) = AreGranted copy table past bodies × IsFull limit bodies (to_write copy table bodies) place
+  abbrev pub IsCopyFault : List (List ℕ) → ImageFault → Type 0
+  IsCopyFault bodies (Broken place) = ⊥
+  IsCopyFault bodies (Grammar index) = IsOutOfOrder copy table past index bodies × (index ≢ 0 → AreMadeFor copy table bodies)
+  IsCopyFault bodies (OtherTable kept asked) = (asked ≡ table) × (kept ≢ table) × (bodies ≢ []) × AreMadeFor copy kept bodies
+  IsCopyFault bodies (Epoch epoch) = ⊥
+  IsCopyFault bodies (Full place) = AreGranted copy table past bodies × IsFull limit bodies (to_write copy table bodies) place
 
   -- Bodies have no fault, and what a mounting writes fits behind them.
-  pub record AreMountable (bodies : List (List ℕ)) : Type 0 where
+  pub record AreMountableAsCopy (bodies : List (List ℕ)) : Type 0 where
     pub granted : AreGranted copy table past bodies
     pub room : (place : ℕ) → IsFull limit bodies (to_write copy table bodies) place → ⊥

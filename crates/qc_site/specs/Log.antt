@@ -14,8 +14,8 @@ use Rattle.qc_site.specs.declared.log.GrantLog.{GrantLog}
 
 module _ {D : Type 0} {g : Ghosts D} where
   -- the journal
-  abbrev pub journal_in : GrantLog D g → Journal D g
-  journal_in log = log.journal
+  abbrev pub log_journal : GrantLog D g → Journal D g
+  log_journal log = log.journal
 
   -- for how many copies it is
   abbrev pub copies_of : GrantLog D g → ℕ

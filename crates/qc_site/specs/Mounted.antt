@@ -5,7 +5,7 @@ use Rattle.qc_event.specs.declared.table.Table.{Table}
 use Rattle.qc_codec.specs.declared.past.Past.{Past}
 use Rattle.qc_journal.specs.Image.{HasRecords, bodies_of}
 use Rattle.qc_journal.specs.declared.journal.Journal.{Journal}
-use Rattle.qc_site.specs.Image.{AreGranted, AreMountable, to_write}
+use Rattle.qc_site.specs.Image.{AreGranted, AreMountableAsCopy, to_write}
 use Rattle.qc_site.specs.declared.fault.SiteNo.{SiteNo}
 use Rattle.qc_site.specs.declared.mounted.Mounted.{Mounted}
 
@@ -26,10 +26,10 @@ records_of site = bodies_of site.bodies.items
 
 -- Bodies were found, which are a copy's in order behind a past. A disk that tells its bytes has them, without a fault.
 -- What a mounting writes stands behind them.
-pub record Mounts (copy : ℕ) (table : Table) (past : Past) (limit : ℕ) (told : Option (List ℕ)) (records : List (List ℕ)) : Type 0 where
+pub record MountsCopy (copy : ℕ) (table : Table) (past : Past) (limit : ℕ) (told : Option (List ℕ)) (records : List (List ℕ)) : Type 0 where
   pub found : List (List ℕ)
   pub granted : AreGranted copy table past found
-  pub fine : IfSome told (λ bytes. HasRecords found bytes × AreMountable copy table past limit found)
+  pub fine : IfSome told (λ bytes. HasRecords found bytes × AreMountableAsCopy copy table past limit found)
   pub all : records ≡ found ++ to_write copy table found
 
 -- the disk of a copy that was mounted, or that was handed back

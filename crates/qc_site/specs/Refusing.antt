@@ -8,7 +8,7 @@ use Rattle.qc_event.specs.declared.table.Table.{Table}
 use Rattle.qc_journal.specs.declared.fault.Fault.{Fault}
 use Rattle.qc_journal.specs.declared.fault.Fault.TheVariants as fault
 use Rattle.qc_ledger.specs.Image.{IsFirstFault}
-use Rattle.qc_site.specs.Image.{IsFault}
+use Rattle.qc_site.specs.Image.{IsCopyFault}
 use Rattle.qc_site.specs.declared.fault.SiteNo.{SiteNo}
 use Rattle.qc_site.specs.declared.fault.SiteNo.TheVariants.{Disk, Image, Strange, Short}
 
@@ -18,19 +18,19 @@ module _ (copy : ℕ) where
   image_no f = Image (record { disk = copy + 1; fault = f })
 
   -- what a fault of the journal is to a mounting
-  abbrev pub mount_no : Fault → SiteNo
-  mount_no fault.Disk = Disk
-  mount_no (fault.Broken place) = image_no (image.Broken place)
-  mount_no (fault.Full place) = image_no (image.Full place)
-  mount_no fault.Memory = Short Memory
+  abbrev pub copy_mount_no : Fault → SiteNo
+  copy_mount_no fault.Disk = Disk
+  copy_mount_no (fault.Broken place) = image_no (image.Broken place)
+  copy_mount_no (fault.Full place) = image_no (image.Full place)
+  copy_mount_no fault.Memory = Short Memory
 
   -- a fault of the image of the copy's disk, of which this holds; or of the disk or the memory
-  abbrev pub IsImage : (ImageFault → Type 0) → SiteNo → Type 0
-  IsImage P Disk = Unit {0}
-  IsImage P (Image bad) = (bad.disk ≡ copy + 1) × P bad.fault
-  IsImage P Strange = ⊥
-  IsImage P (Short Memory) = Unit {0}
-  IsImage P (Short Room) = ⊥
+  abbrev pub IsOfCopyImage : (ImageFault → Type 0) → SiteNo → Type 0
+  IsOfCopyImage P Disk = Unit {0}
+  IsOfCopyImage P (Image bad) = (bad.disk ≡ copy + 1) × P bad.fault
+  IsOfCopyImage P Strange = ⊥
+  IsOfCopyImage P (Short Memory) = Unit {0}
+  IsOfCopyImage P (Short Room) = ⊥
 
   -- a fault of the image of the copy's disk, of which this holds; or of the memory
   abbrev pub IsOfBytes : (ImageFault → Type 0) → SiteNo → Type 0
@@ -42,4 +42,4 @@ module _ (copy : ℕ) where
 
 -- a mounting may be refused: for the first fault of the image that is told, for the disk, or for memory
 abbrev pub IsCopyRefusal : ℕ → Table → Past → ℕ → Option (List ℕ) → SiteNo → Type 0
-IsCopyRefusal copy table past limit told refusal = IsImage copy (λ f. IfSome told (IsFirstFault (IsFault copy table past limit) f)) refusal
+IsCopyRefusal copy table past limit told refusal = IsOfCopyImage copy (λ f. IfSome told (IsFirstFault (IsCopyFault copy table past limit) f)) refusal

@@ -6,7 +6,7 @@ use Rattle.qc_event.specs.Base.{Setting}
 use Rattle.qc_event.specs.Grants.{MayGrant}
 use Rattle.qc_event.specs.History.{Past, grants}
 use Rattle.qc_event.specs.Seats.{copy_seat}
-use Rattle.qc_moss.specs.Follows.{Follows}
+use Rattle.qc_moss.specs.Follows.{TableFollows}
 use Rattle.qc_moss.specs.Locks.{Table}
 use Rattle.qc_desk.specs.declared.view.View.{View}
 use Rattle.qc_desk.specs.Known.{IsKnown}
@@ -25,7 +25,7 @@ pub record HasRoomFor (locks : Table) (grant : Grant) : Type 0 where
 -- A lock table is over these tuples, and follows what was seen with the copy's grants.
 pub record IsTableOf (start : List Tuple) (past : Past) (copy : ℕ) (locks : Table) : Type 0 where
   pub same_start : locks.start ≡ start
-  pub follows : Follows past (grants past copy) locks
+  pub follows : TableFollows past (grants past copy) locks
 
 -- What a copy keeps: its number, that no pass is out and none was joined, what its pass knows, its start, its locks where it is up, and that the grant in hand may be made.
 pub record IsKept (setting : Setting) (copy : ℕ) (pass : View) (start : List Tuple) (locks : Option Table) (hand : Option Grant) : Type 0 where

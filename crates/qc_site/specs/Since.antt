@@ -10,7 +10,7 @@ use Rattle.qc_journal.specs.Journal.{disk_of}
 use Rattle.qc_ledger.specs.Since.{GrownSince, OrMore}
 use Rattle.qc_desk.specs.Entries.{IsOlder}
 use Rattle.qc_site.specs.Back.{grant_body}
-use Rattle.qc_site.specs.Log.{journal_in}
+use Rattle.qc_site.specs.Log.{log_journal}
 use Rattle.qc_site.specs.declared.log.GrantLog.{GrantLog}
 
 -- Bodies are those of what the copy had granted at some time up to now, in order, and maybe of one grant more, which could be made next then.
@@ -25,4 +25,4 @@ pub record AreGrantsBy (setting : Setting) (copy : ℕ) (past : Past) (bodies : 
 
 -- since a moment the copy's disk has the records from before it, and behind them those of grants up to now
 abbrev pub GrantsGrow : {D : Type 0} {g : Ghosts D} → Setting → ℕ → List (List ℕ) → ℕ → GrantLog D g → Past → Type 0
-GrantsGrow {D} {g} setting copy before since log past = GrownSince since before (AreGrantsBy setting copy past) (g.view (disk_of (journal_in log)))
+GrantsGrow {D} {g} setting copy before since log past = GrownSince since before (AreGrantsBy setting copy past) (g.view (disk_of (log_journal log)))

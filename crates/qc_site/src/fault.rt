@@ -1,7 +1,7 @@
 //! Why a site did not do what it was asked.
 ghost use Rattle.std.specs.Prelude.{◌≡◌, ◌<◌};
 ghost use Rattle.qc_event.specs.declared.short.Short.TheVariants.{Memory};
-ghost use Rattle.qc_site.specs.Refusing.{image_no, mount_no};
+ghost use Rattle.qc_site.specs.Refusing.{image_no, copy_mount_no};
 ghost use Rattle.qc_site.specs.declared.fault.SiteNo.TheVariants as no;
 
 use qc_codec::{BadImage, ImageFault};
@@ -63,9 +63,9 @@ pub(crate) fn image_no(copy: u8, fault: ImageFault) -> SiteNo
 }
 
 /// What a fault of the journal is to the mounting of a copy.
-pub(crate) fn mount_no(copy: u8, fault: Fault) -> SiteNo
+pub(crate) fn copy_mount_no(copy: u8, fault: Fault) -> SiteNo
     requires { copy < 16 }
-    ensures { result ≡ mount_no copy fault }
+    ensures { result ≡ copy_mount_no copy fault }
 {
     match fault {
         Fault::Disk => SiteNo::Disk,

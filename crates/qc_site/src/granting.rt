@@ -12,7 +12,7 @@ ghost use Rattle.qc_ledger.specs.Entered.{SeesMore};
 ghost use Rattle.qc_ledger.specs.Runs.{Costs};
 ghost use Rattle.qc_desk.specs.Consulting.{HasAsked};
 ghost use Rattle.qc_site.specs.AtDesk.{LeavesKnown};
-ghost use Rattle.qc_site.specs.Log.{journal_in};
+ghost use Rattle.qc_site.specs.Log.{log_journal};
 ghost use Rattle.qc_site.specs.Serving as words;
 
 use crate::log::GrantLog;
@@ -40,9 +40,9 @@ fn of_fault(fault: &Fault) -> ServeNo
 // After a fault of the journal: a copy lets go of the grant in hand where the journal is up, and is down where not.
 fn fall<D: Disk, N: Store, const C: u8>(log: &GrantLog<D>, replica: &mut Replica<N, C>)
     ensures pass { replica.new.pass ≡ replica.old.pass }
-    ensures either { ((IsUp (journal_in log.now)) × (replica.new.hand ≡ None)
+    ensures either { ((IsUp (log_journal log.now)) × (replica.new.hand ≡ None)
         × (replica.new.up ≡ replica.old.up))
-        ⊎ ((IsDown (journal_in log.now)) × (replica.new.hand ≡ replica.old.hand)
+        ⊎ ((IsDown (log_journal log.now)) × (replica.new.hand ≡ replica.old.hand)
         × (replica.new.up ≡ false)) }
 {
     if log.is_up() {
@@ -67,13 +67,13 @@ impl<D: Disk, N: Store, const C: u8> Site<D, N, C> {
             (seen N.base self.old.replica.pass.seen ask.now.copy ask.now.rec) ask.now.op }
         ensures up { OnOk result (self.new.replica.up ≡ true) }
         ensures hand { OnOk result (self.new.replica.hand ≡ self.old.replica.hand) }
-        ensures journal { OnOk result (IsUp (journal_in self.new.log)) }
+        ensures journal { OnOk result (IsUp (log_journal self.new.log)) }
         ensures refused { IfErr result (ServeSays ask.now (site_state self.new)) }
         ensures pass { self.new.replica.pass ≡ self.old.replica.pass }
         ensures became { SiteBecame (setting_of N.table N.base) C (Some ask.now)
             (empty_handed (site_state self.old)) (site_state self.new) }
         ensures strange { self.new.strange ≡ self.old.strange }
-        ensures cause { Costs (journal_in self.old.log) (journal_in self.new.log)
+        ensures cause { Costs (log_journal self.old.log) (log_journal self.new.log)
             (IsErrOf result ServeNo.Down) }
     {
         self.replica.fits(self.log.copies, ask, tuple);
@@ -113,7 +113,7 @@ impl<D: Disk, N: Store, const C: u8> Site<D, N, C> {
         ensures seer { SeesMore seer.old seer.new }
         ensures known { OnOk result
             (LeavesKnown (setting_of N.table N.base) C self.new.replica.pass seer.new) }
-        ensures cause { Costs (journal_in self.old.log) (journal_in self.new.log)
+        ensures cause { Costs (log_journal self.old.log) (log_journal self.new.log)
             (IsErrOf result ServeNo.Down) }
     {
         self.write(ask, tuple)?;

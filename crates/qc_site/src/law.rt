@@ -5,25 +5,25 @@ ghost use Rattle.qc_codec.specs.declared.image.ImageFault.{ImageFault};
 ghost use Rattle.qc_codec.specs.declared.past.Past.{Past};
 ghost use Rattle.qc_journal.specs.Image.{HasRecords};
 ghost use Rattle.qc_ledger.specs.Image.{IsFirstFault};
-ghost use Rattle.qc_site.specs.Image.{IsFault, AreMountable};
+ghost use Rattle.qc_site.specs.Image.{IsCopyFault, AreMountableAsCopy};
 
 /// The bodies of a copy's records have at most one first fault, and none where they can be mounted. So has an image.
 /// What `mount` answers is then the one fault that there is.
 pub fn one_verdict()
     ensures one { (copy : ℕ) (table : Table) (past : Past) (limit : ℕ)
         → (bodies : List (List ℕ)) (fault other : ImageFault)
-        → IsFault copy table past limit bodies fault → IsFault copy table past limit bodies other
-        → other ≡ fault }
+        → IsCopyFault copy table past limit bodies fault → IsCopyFault copy table past limit
+        bodies other → other ≡ fault }
     ensures not_both { (copy : ℕ) (table : Table) (past : Past) (limit : ℕ)
         → (bodies : List (List ℕ)) (fault : ImageFault)
-        → IsFault copy table past limit bodies fault → AreMountable copy table past limit bodies
-        → ⊥ }
+        → IsCopyFault copy table past limit bodies fault → AreMountableAsCopy copy table past
+        limit bodies → ⊥ }
     ensures one_image { (copy : ℕ) (table : Table) (past : Past) (limit : ℕ)
         → (image : List ℕ) (fault other : ImageFault)
-        → IsFirstFault (IsFault copy table past limit) fault image
-        → IsFirstFault (IsFault copy table past limit) other image → other ≡ fault }
+        → IsFirstFault (IsCopyFault copy table past limit) fault image
+        → IsFirstFault (IsCopyFault copy table past limit) other image → other ≡ fault }
     ensures not_both_image { (copy : ℕ) (table : Table) (past : Past) (limit : ℕ)
         → (image : List ℕ) (fault : ImageFault) (bodies : List (List ℕ))
-        → IsFirstFault (IsFault copy table past limit) fault image
-        → HasRecords bodies image → AreMountable copy table past limit bodies → ⊥ }
+        → IsFirstFault (IsCopyFault copy table past limit) fault image
+        → HasRecords bodies image → AreMountableAsCopy copy table past limit bodies → ⊥ }
 {}

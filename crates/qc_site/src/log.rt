@@ -26,22 +26,22 @@ pub struct GrantLog<D: Disk> {
 }
 
 impl<D: Disk> GrantLog<D> {
-    ghost use Rattle.qc_site.specs.Log.{copies_of, earlier_in, journal_in, IsOver, WriteLeaves};
+    ghost use Rattle.qc_site.specs.Log.{copies_of, earlier_in, log_journal, IsOver, WriteLeaves};
 
     /// Whether it is up.
     pub(crate) fn is_up(&self) -> bool
-        ensures { IsTrue result ↔ IsUp (journal_in self.now) }
+        ensures { IsTrue result ↔ IsUp (log_journal self.now) }
     {
         self.journal.is_up()
     }
 
     /// Takes it down, as a crash of its copy does.
     pub(crate) fn close(&mut self)
-        ensures down { IsDown (journal_in self.new) }
+        ensures down { IsDown (log_journal self.new) }
         ensures over { (before : List (List ℕ)) (given : List Grant) (hand : Option Grant)
             → IsOver before self.old given hand → IsOver before self.new given hand }
-        ensures disk { disk_of (journal_in self.new) ≡ disk_of (journal_in self.old) }
-        ensures limit { limit_of (journal_in self.new) ≡ limit_of (journal_in self.old) }
+        ensures disk { disk_of (log_journal self.new) ≡ disk_of (log_journal self.old) }
+        ensures limit { limit_of (log_journal self.new) ≡ limit_of (log_journal self.old) }
         ensures copies { copies_of self.new ≡ copies_of self.old }
     {
         self.journal.close();
@@ -49,34 +49,34 @@ impl<D: Disk> GrantLog<D> {
 
     /// Writes a grant, which is in hand then, unless nothing was done. From `Ok` on it is in each image.
     pub(crate) fn write(&mut self, grant: &Grant) -> Result<(), Fault>
-        requires up { IsUp (journal_in self.old) }
+        requires up { IsUp (log_journal self.old) }
         requires proper { (body.grant (format_1 (copies_of self.old))).fits grant.now }
 
         // At `Ok` it is up, with the grant in hand. Full comes where the record would pass the limit, and changes nothing.
-        ensures up { OnOk result (IsUp (journal_in self.new)) }
+        ensures up { OnOk result (IsUp (log_journal self.new)) }
         ensures left { IfErr result (WriteLeaves self.old self.new) }
         ensures full { (place : ℕ) → result ≡ Err (Full place)
-            → IsTooLong (place_of (journal_in self.old)) (limit_of (journal_in self.old))
+            → IsTooLong (place_of (log_journal self.old)) (limit_of (log_journal self.old))
             (grant_body (copies_of self.old) grant.now) }
 
         // Where the disk tells its bytes, each image has the record after `Ok`, and may have it where the journal is down.
         ensures over { OnOk result ((before : List (List ℕ)) (given : List Grant)
             → IsOver before self.old given None → IsOver before self.new given (Some grant.now)) }
-        ensures idle { OnErr result (IsUp (journal_in self.new)
+        ensures idle { OnErr result (IsUp (log_journal self.new)
             → (before : List (List ℕ)) (given : List Grant)
             → IsOver before self.old given None → IsOver before self.new given None) }
-        ensures unsure { OnErr result (IsDown (journal_in self.new)
+        ensures unsure { OnErr result (IsDown (log_journal self.new)
             → (before : List (List ℕ)) (given : List Grant)
             → IsOver before self.old given None → IsOver before self.new given (Some grant.now)) }
 
-        ensures limit { limit_of (journal_in self.new) ≡ limit_of (journal_in self.old) }
+        ensures limit { limit_of (log_journal self.new) ≡ limit_of (log_journal self.old) }
         ensures copies { copies_of self.new ≡ copies_of self.old }
-        ensures any_moment { (bodies : List (List ℕ)) → Keeps (journal_in self.old) bodies
-            → Leaves (journal_in self.old) (journal_in self.new)
+        ensures any_moment { (bodies : List (List ℕ)) → Keeps (log_journal self.old) bodies
+            → Leaves (log_journal self.old) (log_journal self.new)
             (HasOrMore bodies (grant_body (copies_of self.old) grant.now)) }
-        ensures grows { (bodies : List (List ℕ)) → Keeps (journal_in self.old) bodies
-            → LosesNone (journal_in self.old) (journal_in self.new) }
-        ensures cause { Costs (journal_in self.old) (journal_in self.new)
+        ensures grows { (bodies : List (List ℕ)) → Keeps (log_journal self.old) bodies
+            → LosesNone (log_journal self.old) (log_journal self.new) }
+        ensures cause { Costs (log_journal self.old) (log_journal self.new)
             (IsErrOf result Fault.Disk) }
     {
         let bytes = write_grant(self.alloc, grant, self.copies)?;
@@ -90,8 +90,8 @@ impl<D: Disk> GrantLog<D> {
         given: &[Grant],
         hand: &Option<Grant>,
     ) -> Result<bool, BackNo>
-        ensures up { OnOk result (IsUp (journal_in self.new)) }
-        ensures down { OnErr result (IsDown (journal_in self.new)) }
+        ensures up { OnOk result (IsUp (log_journal self.new)) }
+        ensures down { OnErr result (IsDown (log_journal self.new)) }
 
         // Where the disk tells its bytes, what differs is told as it is there; and where they keep what was given, nothing
         // is strange.
@@ -103,18 +103,18 @@ impl<D: Disk> GrantLog<D> {
             → IsOver before self.new given.now hand.now) }
         ensures plain { (before : List (List ℕ)) → IsOver before self.old given.now hand.now
             → IfErr result IsPlain }
-        ensures says { IfSome (D.view (disk_of (journal_in self.old))).content
+        ensures says { IfSome (D.view (disk_of (log_journal self.old))).content
             (IsAnswer (copies_of self.old) (earlier_in self.old) given.now hand.now result) }
         ensures none { result ≡ Ok true → hand.now ≡ None → ⊥ }
-        ensures content { (D.view (disk_of (journal_in self.new))).content
-            ≡ (D.view (disk_of (journal_in self.old))).content }
+        ensures content { (D.view (disk_of (log_journal self.new))).content
+            ≡ (D.view (disk_of (log_journal self.old))).content }
 
-        ensures limit { limit_of (journal_in self.new) ≡ limit_of (journal_in self.old) }
+        ensures limit { limit_of (log_journal self.new) ≡ limit_of (log_journal self.old) }
         ensures copies { copies_of self.new ≡ copies_of self.old }
-        ensures any_moment { Leaves (journal_in self.old) (journal_in self.new)
-            (D.view (disk_of (journal_in self.old))).may_leave }
-        ensures falls { Falls (journal_in self.old) (journal_in self.new) }
-        ensures cause { Costs (journal_in self.old) (journal_in self.new)
+        ensures any_moment { Leaves (log_journal self.old) (log_journal self.new)
+            (D.view (disk_of (log_journal self.old))).may_leave }
+        ensures falls { Falls (log_journal self.old) (log_journal self.new) }
+        ensures cause { Costs (log_journal self.old) (log_journal self.new)
             (IsErrOf result BackNo.Disk) }
     {
         let copies = self.copies;
@@ -134,7 +134,7 @@ impl<D: Disk> GrantLog<D> {
 
     /// The disk.
     pub(crate) fn into_disk(self) -> D
-        ensures { result ≡ disk_of (journal_in self) }
+        ensures { result ≡ disk_of (log_journal self) }
     {
         self.journal.into_disk()
     }

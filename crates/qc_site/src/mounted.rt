@@ -3,7 +3,7 @@ ghost use Rattle.std.specs.Prelude.{◌≡◌, ◌≤◌, ◌<◌, ℕ, [], true
 ghost use Rattle.qc_event.specs.Seats.{copy_seat};
 ghost use Rattle.qc_event.specs.Tables.{setting_of};
 ghost use Rattle.qc_journal.specs.Journal.{disk_of, IsDown, Keeps};
-ghost use Rattle.qc_site.specs.Log.{journal_in};
+ghost use Rattle.qc_site.specs.Log.{log_journal};
 
 use crate::beginning::Beginning;
 use crate::log::GrantLog;
@@ -64,7 +64,7 @@ impl<D: Disk> Mounted<D> {
         ensures none { result.replica.hand ≡ None }
         ensures pass { result.replica.pass ≡ pass }
         ensures strange { is_some result.strange ≡ false }
-        ensures journal { journal_in result.log ≡ journal_of self }
+        ensures journal { log_journal result.log ≡ journal_of self }
         ensures over { Keeps (journal_of self) (records_of self)
             → KeepsGranted C (records_of self) result.log result.replica }
         ensures grown { (since : ℕ) → since ≡ (D.view (disk_of (journal_of self))).moment

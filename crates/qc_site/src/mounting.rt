@@ -11,9 +11,9 @@ ghost use Rattle.qc_journal.specs.Image.{HasAt, bodies_of};
 ghost use Rattle.qc_journal.specs.Journal.{disk_of, limit_of, IsUp, Keeps};
 ghost use Rattle.qc_ledger.specs.Mounted.{MountLeaves, HasSome};
 ghost use Rattle.qc_ledger.specs.Runs.{Costs, HasMore, KeepsAll, Leaves, LosesNone};
-ghost use Rattle.qc_site.specs.Image.{made_body, to_write, AreGranted, AreMountable, IsFault};
-ghost use Rattle.qc_site.specs.Refusing.{IsCopyRefusal, IsImage};
-ghost use Rattle.qc_site.specs.Mounted.{Mounts, copies_of, copy_of, journal_of, records_of, disk_after};
+ghost use Rattle.qc_site.specs.Image.{made_body, to_write, AreGranted, AreMountableAsCopy, IsCopyFault};
+ghost use Rattle.qc_site.specs.Refusing.{IsCopyRefusal, IsOfCopyImage};
+ghost use Rattle.qc_site.specs.Mounted.{MountsCopy, copies_of, copy_of, journal_of, records_of, disk_after};
 ghost use Rattle.qc_site.specs.Start.{from_row, start_of};
 
 use crate::beginning::Beginning;
@@ -61,15 +61,15 @@ fn begin<D: Disk>(
     ensures granted { OnOk result (AreGranted copy table.now past.now
         (bodies_of bodies.old.items)) }
     ensures fine { OnOk result (KeepsAll journal.old bodies.old
-        → AreMountable copy table.now past.now (limit_of journal.old)
+        → AreMountableAsCopy copy table.now past.now (limit_of journal.old)
         (bodies_of bodies.old.items)) }
     ensures bodies { OnOk result (HasMore bodies.old bodies.new
         (to_write copy table.now (bodies_of bodies.old.items))) }
     ensures limit { limit_of journal.new ≡ limit_of journal.old }
     ensures keeps { OnOk result (KeepsAll journal.old bodies.old
         → KeepsAll journal.new bodies.new) }
-    ensures refused { IfErr result (IsImage copy (λ fault. KeepsAll journal.old bodies.old
-        → IsFault copy table.now past.now (limit_of journal.old) (bodies_of bodies.old.items)
+    ensures refused { IfErr result (IsOfCopyImage copy (λ fault. KeepsAll journal.old bodies.old
+        → IsCopyFault copy table.now past.now (limit_of journal.old) (bodies_of bodies.old.items)
         fault)) }
     ensures any_moment { KeepsAll journal.old bodies.old
         → Leaves journal.old journal.new (HasSome (bodies_of bodies.old.items)
@@ -102,7 +102,7 @@ pub fn mount<D: Disk>(
     requires proper { (body.table 1).fits table.now }
 
     // Records were found, which are this copy's for this table, in order behind this past.
-    ensures mounts { IfOk result (λ mounted. Mounts copy table.now past.now limit
+    ensures mounts { IfOk result (λ mounted. MountsCopy copy table.now past.now limit
         (D.view disk).content (records_of mounted)) }
     ensures copy { IfOk result (λ mounted. (copy_of mounted ≡ copy)
         × (copies_of mounted ≡ table.now.copies)) }

@@ -8,7 +8,7 @@ ghost use Rattle.qc_codec.specs.Ledger.{made_for, readings};
 ghost use Rattle.qc_codec.specs.declared.past.Past.{Past};
 ghost use Rattle.qc_journal.specs.Image.{bodies_of};
 ghost use Rattle.qc_site.specs.Granted.{given_by, HasAccesses};
-ghost use Rattle.qc_site.specs.Image.{made_body, AreGranted, IsFault};
+ghost use Rattle.qc_site.specs.Image.{made_body, AreGranted, IsCopyFault};
 ghost use Rattle.qc_site.specs.Reading.{IsFirstBad, IsLaterBad};
 ghost use Rattle.qc_site.specs.Refusing.{IsOfBytes};
 
@@ -117,7 +117,7 @@ pub(crate) fn grants_of(
         (bodies_of bodies.now)) }
     ensures granted { OnOk result (AreGranted copy table.now past.now (bodies_of bodies.now)) }
     ensures fault { (limit : ℕ) → IfErr result (IsOfBytes copy
-        (IsFault copy table.now past.now limit (bodies_of bodies.now))) }
+        (IsCopyFault copy table.now past.now limit (bodies_of bodies.now))) }
 {
     if bodies.is_empty() {
         return Ok(Vec::new(alloc));

@@ -11,7 +11,7 @@ ghost use Rattle.qc_ledger.specs.Entered.{SeesMore};
 ghost use Rattle.qc_ledger.specs.Runs.{Costs};
 ghost use Rattle.qc_desk.specs.Consulting.{HasAsked};
 ghost use Rattle.qc_site.specs.AtDesk.{unable_entry, IsGranted, LeavesKnown};
-ghost use Rattle.qc_site.specs.Log.{journal_in};
+ghost use Rattle.qc_site.specs.Log.{log_journal};
 ghost use Rattle.qc_site.specs.Serving as words;
 ghost use Rattle.qc_site.specs.declared.serve.ServeNo.TheVariants as no;
 
@@ -70,7 +70,7 @@ impl<D: Disk, N: Store, const C: u8> Site<D, N, C> {
             × (self.new.log ≡ self.old.log) × (self.new.replica ≡ self.old.replica) }
         ensures became { SiteBecame (setting_of N.table N.base) C None (site_state self.old)
             (site_state self.new) }
-        ensures cause { Costs (journal_in self.old.log) (journal_in self.new.log)
+        ensures cause { Costs (log_journal self.old.log) (log_journal self.new.log)
             (IsErrOf result SiteNo.Disk) }
     {
         if self.replica.is_up() {
@@ -107,7 +107,7 @@ impl<D: Disk, N: Store, const C: u8> Site<D, N, C> {
         ensures seer { SeesMore seer.old seer.new }
         ensures known { OnOk result
             (LeavesKnown (setting_of N.table N.base) C self.new.replica.pass seer.new) }
-        ensures cause { Costs (journal_in self.old.log) (journal_in self.new.log)
+        ensures cause { Costs (log_journal self.old.log) (log_journal self.new.log)
             (IsErrOf result ServeNo.Down) }
     {
         let told = self.replica.consult(rt, desk, seer, ask)?;
@@ -151,7 +151,7 @@ impl<D: Disk, N: Store, const C: u8> Site<D, N, C> {
         ensures asked { HasAsked seer.new.seen ask.now }
         ensures known { OnOk result
             (LeavesKnown (setting_of N.table N.base) C self.new.replica.pass seer.new) }
-        ensures cause { Costs (journal_in self.old.log) (journal_in self.new.log)
+        ensures cause { Costs (log_journal self.old.log) (log_journal self.new.log)
             (IsErrOf result ServeNo.Down) }
     {
         match self.rise(rt, desk) {
@@ -221,7 +221,7 @@ impl<D: Disk, N: Store, const C: u8> Site<D, N, C> {
             (LeavesKnown (setting_of N.table N.base) C self.new.replica.pass seer.new) }
 
         // Down is answered only where the disk's count of faults rose.
-        ensures cause { Costs (journal_in self.old.log) (journal_in self.new.log)
+        ensures cause { Costs (log_journal self.old.log) (log_journal self.new.log)
             (result ≡ Ok Down) }
     {
         match self.try_serve(rt, desk, seer, ask) {

@@ -10,7 +10,7 @@ ghost use Rattle.qc_ledger.specs.Entered.{SeesMore};
 ghost use Rattle.qc_ledger.specs.Runs.{Costs, Falls, Leaves};
 ghost use Rattle.qc_desk.specs.Known.{IsKnown};
 ghost use Rattle.qc_site.specs.AtDesk.{LeavesKnown, OnlyLooks};
-ghost use Rattle.qc_site.specs.Log.{copies_of, journal_in};
+ghost use Rattle.qc_site.specs.Log.{copies_of, log_journal};
 
 use crate::back::{BackNo, Strange};
 use crate::compare::with_hand;
@@ -30,7 +30,7 @@ pub struct Site<D: Disk, N: Store, const C: u8> {
     pub(crate) log: GrantLog<D>,
     pub(crate) replica: Replica<N, C>,
     pub(crate) strange: Option<Strange>,
-    ghost journal: { replica.up ≡ true → IsDown (journal_in log) → ⊥ },
+    ghost journal: { replica.up ≡ true → IsDown (log_journal log) → ⊥ },
     ghost sound: { is_some strange ≡ true → replica.up ≡ false },
     ghost copies: { copies_of log ≡ length N.base },
 }
@@ -78,8 +78,8 @@ impl<D: Disk, N: Store, const C: u8> Site<D, N, C> {
         ensures over { (before : List (List ℕ))
             → KeepsGranted C before self.old.log self.old.replica
             → KeepsGranted C before self.new.log self.new.replica }
-        ensures disk { disk_of (journal_in self.new.log) ≡ disk_of (journal_in self.old.log) }
-        ensures limit { limit_of (journal_in self.new.log) ≡ limit_of (journal_in self.old.log) }
+        ensures disk { disk_of (log_journal self.new.log) ≡ disk_of (log_journal self.old.log) }
+        ensures limit { limit_of (log_journal self.new.log) ≡ limit_of (log_journal self.old.log) }
         ensures strange { self.new.strange ≡ self.old.strange }
     {
         self.replica.forget();
@@ -90,7 +90,7 @@ impl<D: Disk, N: Store, const C: u8> Site<D, N, C> {
     fn compare(&mut self, given: &[Grant]) -> Result<(), SiteNo>
         requires given { given.now ≡ grants self.old.replica.pass.seen C }
         requires down { self.old.replica.up ≡ false }
-        ensures up { OnOk result (IsUp (journal_in self.new.log)) }
+        ensures up { OnOk result (IsUp (log_journal self.new.log)) }
         ensures sound { OnOk result (is_some self.new.strange ≡ is_some self.old.strange) }
         ensures refused { IfErr result (ReviveSays (site_state self.new)) }
         ensures down { self.new.replica.up ≡ false }
@@ -103,13 +103,13 @@ impl<D: Disk, N: Store, const C: u8> Site<D, N, C> {
         ensures plain { (before : List (List ℕ))
             → KeepsGranted C before self.old.log self.old.replica
             → is_some self.new.strange ≡ is_some self.old.strange }
-        ensures limit { limit_of (journal_in self.new.log) ≡ limit_of (journal_in self.old.log) }
-        ensures content { (D.view (disk_of (journal_in self.new.log))).content
-            ≡ (D.view (disk_of (journal_in self.old.log))).content }
-        ensures any_moment { Leaves (journal_in self.old.log) (journal_in self.new.log)
-            (D.view (disk_of (journal_in self.old.log))).may_leave }
-        ensures falls { Falls (journal_in self.old.log) (journal_in self.new.log) }
-        ensures cause { Costs (journal_in self.old.log) (journal_in self.new.log)
+        ensures limit { limit_of (log_journal self.new.log) ≡ limit_of (log_journal self.old.log) }
+        ensures content { (D.view (disk_of (log_journal self.new.log))).content
+            ≡ (D.view (disk_of (log_journal self.old.log))).content }
+        ensures any_moment { Leaves (log_journal self.old.log) (log_journal self.new.log)
+            (D.view (disk_of (log_journal self.old.log))).may_leave }
+        ensures falls { Falls (log_journal self.old.log) (log_journal self.new.log) }
+        ensures cause { Costs (log_journal self.old.log) (log_journal self.new.log)
             (IsErrOf result SiteNo.Disk) }
     {
         match self.log.read_back(given, &self.replica.hand()) {
@@ -129,7 +129,7 @@ impl<D: Disk, N: Store, const C: u8> Site<D, N, C> {
 
     /// Enters the grant in hand, where there is one.
     pub(crate) fn enter_hand<R: Wait>(&mut self, rt: &R, desk: &Desk<N>) -> Result<(), SiteNo>
-        requires up { IsUp (journal_in self.old.log) }
+        requires up { IsUp (log_journal self.old.log) }
         requires sound { is_some self.old.strange ≡ false }
         ensures none { OnOk result (self.new.replica.hand ≡ None) }
         ensures grants { OnOk result (grants self.new.replica.pass.seen C
@@ -153,7 +153,7 @@ impl<D: Disk, N: Store, const C: u8> Site<D, N, C> {
     fn restore<R: Wait>(&mut self, rt: &R, desk: &Desk<N>, given: Vec<Grant>) -> Result<(), SiteNo>
         requires proper { IsProper (setting_of N.table N.base) }
         requires given { given.items ≡ grants self.old.replica.pass.seen C }
-        requires up { IsUp (journal_in self.old.log) }
+        requires up { IsUp (log_journal self.old.log) }
         requires sound { is_some self.old.strange ≡ false }
         ensures ready { OnOk result (CanServe self.new.replica) }
         ensures refused { IfErr result (IsSiteWant self.new.replica.pass.seen) }
@@ -182,7 +182,7 @@ impl<D: Disk, N: Store, const C: u8> Site<D, N, C> {
             (site_state self.new) }
         ensures wrote_none { SiteWroteNone (setting_of N.table N.base) C (site_state self.old)
             (site_state self.new) }
-        ensures cause { Costs (journal_in self.old.log) (journal_in self.new.log)
+        ensures cause { Costs (log_journal self.old.log) (log_journal self.new.log)
             (IsErrOf result SiteNo.Disk) }
     {
         if self.strange.is_some() {
@@ -195,7 +195,7 @@ impl<D: Disk, N: Store, const C: u8> Site<D, N, C> {
 
     /// The disk and the pass.
     pub fn into_parts(self) -> (D, Pass<N>)
-        ensures disk { result.0 ≡ disk_of (journal_in self.log) }
+        ensures disk { result.0 ≡ disk_of (log_journal self.log) }
         ensures pass { result.1 ≡ self.replica.pass }
         ensures copy { (result.1.live ≡ true) × (result.1.number ≡ copy_seat C)
             × (result.1.out ≡ []) }

@@ -16,7 +16,7 @@ use Rattle.qc_event.specs.Seats.{copy_seat, ledger_seat}
 use Rattle.qc_event.proofs.OneEntry.{not_some, some_or_none}
 use Rattle.qc_event.proofs.RootAndTops.{ready_started}
 use Rattle.qc_journal.specs.Image.{EndsAt, HasRecords}
-use Rattle.qc_journal.specs.Journal.{in_hand, Stands}
+use Rattle.qc_journal.specs.Journal.{in_hand, ImageStands}
 use Rattle.qc_journal.specs.declared.journal.State.{State}
 use Rattle.qc_journal.specs.declared.journal.State.TheVariants as state
 use Rattle.qc_ledger.specs.Entered.{KeepsLogged, MayFinish, pending_by, told_body, tops_of, unsure_by}
@@ -62,7 +62,7 @@ module _ {D : Type 0} {g : Ghosts D} (setting : Setting) (copy : ℕ) (before : 
     | inr all ↦ inr (ap (λ r. given ++ r) all)
   ]
 
-  by_hand : (place : ℕ) (image : List ℕ) (hand : Option Grant) → hand ≡ standing.hand → over.rest ≡ [] → Stands place (bodies (given ++ over.rest)) (option_map write hand) image → Has image
+  by_hand : (place : ℕ) (image : List ℕ) (hand : Option Grant) → hand ≡ standing.hand → over.rest ≡ [] → ImageStands place (bodies (given ++ over.rest)) (option_map write hand) image → Has image
   by_hand place image None is none stands = (given ++ over.rest, rest_is, inr (place, stands))
   by_hand place image (Some h) is none (inl stands) = (given ++ over.rest, rest_is, inr (place, stands))
   by_hand place image (Some h) is none (inr stands) = (
@@ -73,8 +73,8 @@ module _ {D : Type 0} {g : Ghosts D} (setting : Setting) (copy : ℕ) (before : 
 
   each_image : (image : List ℕ) → (g.view log.journal.disk).may_leave image → Has image
   each_image image left = elim over.in_journal [
-    | inl none ↦ (given ++ over.rest, rest_is, inr (log.journal.place, subst (λ o. Stands log.journal.place (bodies (given ++ over.rest)) o image) none (over.keeps.each image left)))
-    | inr (is, none) ↦ by_hand log.journal.place image standing.hand refl none (subst (λ o. Stands log.journal.place (bodies (given ++ over.rest)) o image) is (over.keeps.each image left))
+    | inl none ↦ (given ++ over.rest, rest_is, inr (log.journal.place, subst (λ o. ImageStands log.journal.place (bodies (given ++ over.rest)) o image) none (over.keeps.each image left)))
+    | inr (is, none) ↦ by_hand log.journal.place image standing.hand refl none (subst (λ o. ImageStands log.journal.place (bodies (given ++ over.rest)) o image) is (over.keeps.each image left))
   ]
 
   pub keeps_grants : IfSome standing.hand (MayGrant setting standing.pass.seen (copy_seat copy) copy) → KeepsGrants setting log.copies copy before (g.view log.journal.disk).may_leave standing.pass.seen
@@ -121,7 +121,7 @@ module _ {D : Type 0} {g : Ghosts D} (setting : Setting) (before : List (List �
   next_more : (t : Name) → told_of (committed ++ []) ++ told_body told t ∷ [] ≡ told_of (committed ++ t ∷ [])
   next_more t = append_assoc before (map (told_body told) (committed ++ [])) (told_body told t ∷ []) ∙ ap (λ l. before ++ l) (ap (λ ts. map (told_body told) ts ++ told_body told t ∷ []) (append-nil committed) ∙ sym (map-append (told_body told) committed (t ∷ [])))
 
-  by_state : (place : ℕ) (image : List ℕ) (s : State) (hand : Option Name) → hand ≡ top_in shelf → Stands place (told_of (committed ++ pending_by s hand)) (option_map (told_body told) (unsure_by s hand)) image → HasTops image
+  by_state : (place : ℕ) (image : List ℕ) (s : State) (hand : Option Name) → hand ≡ top_in shelf → ImageStands place (told_of (committed ++ pending_by s hand)) (option_map (told_body told) (unsure_by s hand)) image → HasTops image
   by_state place image (state.Up missing) None is stands = (committed ++ [], inl (append-nil committed), inr (place, stands))
   by_state place image (state.Up missing) (Some t) is stands = (committed ++ t ∷ [], inr (ap (λ o. committed ++ option_to_list o) is), inr (place, stands))
   by_state place image (state.Down held) None is stands = (committed ++ [], inl (append-nil committed), inr (place, stands))
@@ -134,8 +134,8 @@ module _ {D : Type 0} {g : Ghosts D} (setting : Setting) (before : List (List �
 
   pub each_top : (image : List ℕ) → (g.view (journal_in shelf).disk).may_leave image → HasTops image
   each_top image left = by_state (journal_in shelf).place image (journal_in shelf).state (top_in shelf) refl
-      (subst (λ o. Stands (journal_in shelf).place (told_of (committed ++ pending_by (journal_in shelf).state (top_in shelf))) o image) over.hand
-      (subst (λ (p : Past). Stands (journal_in shelf).place (told_of (tops_of p ++ pending_by (journal_in shelf).state (top_in shelf))) (in_hand (journal_in shelf)) image) own
+      (subst (λ o. ImageStands (journal_in shelf).place (told_of (committed ++ pending_by (journal_in shelf).state (top_in shelf))) o image) over.hand
+      (subst (λ (p : Past). ImageStands (journal_in shelf).place (told_of (tops_of p ++ pending_by (journal_in shelf).state (top_in shelf))) (in_hand (journal_in shelf)) image) own
       (over.keeps.each image left)))
 
 pub keeps_tops : {D : Type 0} {g : Ghosts D} (setting : Setting) (before : List (List ℕ)) (shelf : Shelf D g) (pass : View) → Legal setting pass.seen → pass.mine ≡ entries_of ledger_seat pass.seen

@@ -20,7 +20,7 @@ use Rattle.qc_event.specs.Seats.{copy_seat, ledger_seat}
 use Rattle.qc_event.proofs.Absent.{same_is}
 use Rattle.qc_event.proofs.StillTold.{some_stays}
 use Rattle.qc_journal.specs.Image.{EndsAt, row}
-use Rattle.qc_journal.specs.Journal.{IsTooLong, Keeps, Stands, disk_of, in_hand, place_of}
+use Rattle.qc_journal.specs.Journal.{IsTooLong, Keeps, ImageStands, disk_of, in_hand, place_of}
 use Rattle.qc_journal.specs.declared.journal.Journal.{Journal}
 use Rattle.qc_ledger.specs.Entered.{CommitsHand, EntersTop, RefusalEnters, commits_of, told_body}
 use Rattle.qc_ledger.specs.Shelf.{top_body}
@@ -54,7 +54,7 @@ too_long_by place most body never = elim (cases_lt most (place + 6 + length body
 ends_within : (place : ℕ) (bodies : List (List ℕ)) (image : List ℕ) → EndsAt place bodies image → place < length image
 ends_within place bodies image ends = omega (arith, ends.size, ap length ends.split, length-append (row bodies) (ends.gate ∷ ends.rest))
 
-stands_within : (place : ℕ) (bodies : List (List ℕ)) (hand : Option (List ℕ)) (image : List ℕ) → Stands place bodies hand image → place < length image
+stands_within : (place : ℕ) (bodies : List (List ℕ)) (hand : Option (List ℕ)) (image : List ℕ) → ImageStands place bodies hand image → place < length image
 stands_within place bodies None image ends = ends_within place bodies image ends
 stands_within place bodies (Some body) image (inl ends) = ends_within place bodies image ends
 stands_within place bodies (Some body) image (inr ends) = omega (arith, ends_within (place + 5 + length body) (bodies ++ body ∷ []) image ends)

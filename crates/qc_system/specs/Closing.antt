@@ -1,6 +1,6 @@
 -- What is known of the disks while a system is taken apart, and when it is.
 use Rattle.std.specs.Prelude.{◌≡◌, ◌<◌, ℕ, ◌+◌, true, List, length, min, Some, slice_get}
-use Rattle.qc_disk.specs.Disk.{View as Disk}
+use Rattle.qc_disk.specs.Disk.{DiskView as Disk}
 use Rattle.qc_event.specs.Base.{Setting}
 use Rattle.qc_event.specs.History.{Past}
 use Rattle.qc_event.specs.Legal.{Legal}

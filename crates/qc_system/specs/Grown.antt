@@ -1,19 +1,19 @@
 -- How a disk has grown since its mounting.
 use Rattle.std.specs.Prelude.{◌<◌, ◌↔◌, ℕ, List, None}
-use Rattle.qc_disk.specs.Disk.{View}
+use Rattle.qc_disk.specs.Disk.{DiskView}
 use Rattle.qc_ledger.specs.Since.{GrownSince}
 
 -- at each moment before the one of the first, a crash left of the disk what it left of the first
-abbrev pub LeftAlike : View → View → Type 0
+abbrev pub LeftAlike : DiskView → DiskView → Type 0
 LeftAlike first disk = (t : ℕ) (c : List ℕ) → t < first.moment → disk.left_at t c ↔ first.left_at t c
 
 -- Before the first's moment a crash left of the disk what it left of the first. At each moment since, an image has the records from before, and behind them some of which this is so; and no record was lost.
-pub record GrownFrom (first : View) (before : List (List ℕ)) (May : List (List ℕ) → Type 0) (disk : View) : Type 0 where
+pub record GrownFrom (first : DiskView) (before : List (List ℕ)) (May : List (List ℕ) → Type 0) (disk : DiskView) : Type 0 where
   pub began : LeftAlike first disk
   pub grown : GrownSince first.moment before May disk
 
 -- a disk where a value is wanted and nothing is said of it
-abbrev pub no_disk : View
+abbrev pub no_disk : DiskView
 no_disk = record {
   content = None;
   size = 0;

@@ -1,7 +1,7 @@
 -- What the disks of a system keep since they were mounted.
 use Rattle.std.specs.Prelude.{◌≡◌, ◌≤◌, ◌+◌, ◌-◌, ◌^◌, ℕ, Bool, true, false, IsTrue, List, length, min}
 use Rattle.std.specs.List.{count_by}
-use Rattle.qc_disk.specs.Disk.{View as Disk}
+use Rattle.qc_disk.specs.Disk.{DiskView as Disk}
 use Rattle.qc_disk.specs.declared.disk.Disk.{Ghosts}
 use Rattle.qc_event.specs.declared.event.Entry.{Entry}
 use Rattle.qc_event.specs.declared.event.Event.{Event}
@@ -20,7 +20,7 @@ use Rattle.qc_ledger.specs.declared.fault.LedgerNo.TheVariants as no
 use Rattle.qc_ledger.specs.Shelf.{journal_in as journal_of_shelf}
 use Rattle.qc_ledger.specs.declared.shelf.Shelf.{Shelf}
 use Rattle.qc_desk.specs.declared.view.View.{View}
-use Rattle.qc_site.specs.Log.{journal_in}
+use Rattle.qc_site.specs.Log.{log_journal}
 use Rattle.qc_site.specs.Replica.{Standing}
 use Rattle.qc_site.specs.Since.{AreGrantsBy}
 use Rattle.qc_site.specs.Sites.{KeepsGranted}
@@ -31,7 +31,7 @@ use Rattle.qc_system.specs.Grown.{GrownFrom}
 -- since it was this disk
 abbrev pub KeepsSince : {D : Type 0} {g : Ghosts D} → Setting → ℕ → Bool → List (List ℕ) → Disk → GrantLog D g → Standing → Type 0
 KeepsSince {D} {g} setting copy told before first log standing = told ≡ true
-    → KeepsGranted copy before log standing × GrownFrom first before (AreGrantsBy setting copy standing.pass.seen) (g.view (disk_of (journal_in log)))
+    → KeepsGranted copy before log standing × GrownFrom first before (AreGrantsBy setting copy standing.pass.seen) (g.view (disk_of (log_journal log)))
 
 -- where the ledger's disk tells its bytes, it keeps what was found there, and the tops that were committed since, with the
 -- names that are listed of each; and it did at each moment since it was this disk

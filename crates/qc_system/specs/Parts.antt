@@ -1,7 +1,7 @@
 -- What was mounted, and what is known of the first pass while a system is opened.
 use Rattle.std.specs.Prelude.{◌≡◌, ℕ, ◌+◌, ◌-◌, ◌<◌, ◌≤◌, Bool, true, false, List, [], ◌∷◌, length, slice_index_or}
 use Rattle.qc_config.specs.declared.tuple.Tuple.{Tuple}
-use Rattle.qc_disk.specs.Disk.{View as Disk}
+use Rattle.qc_disk.specs.Disk.{DiskView as Disk}
 use Rattle.qc_disk.specs.declared.disk.Disk.{Ghosts}
 use Rattle.qc_journal.specs.Journal.{disk_of, Keeps}
 use Rattle.qc_journal.specs.declared.journal.Journal.{Journal}

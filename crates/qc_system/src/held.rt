@@ -12,7 +12,7 @@ ghost use Rattle.qc_desk.specs.Consulting.{HasAsked};
 ghost use Rattle.qc_desk.specs.Entries.{entries_of};
 ghost use Rattle.qc_desk.specs.Known.{IsKnown};
 ghost use Rattle.qc_site.specs.Answers.{HasAnswered};
-ghost use Rattle.qc_site.specs.Log.{journal_in};
+ghost use Rattle.qc_site.specs.Log.{log_journal};
 ghost use Rattle.qc_system.specs.Closing.{CopyKeeps};
 ghost use Rattle.qc_system.specs.Kept.{KeepsSince, Pays, downs};
 ghost use Rattle.qc_system.specs.Parts.{IsMounted};
@@ -36,7 +36,7 @@ where
     ghost keeps: { ∥ KeepsSince (setting_of N.table N.base) C (N.told (C + 1)) (N.before (C + 1))
         (N.first (C + 1)) site.log site.replica ∥₁ },
     ghost pays: { Pays (N.first (C + 1)).faults (downs site.replica.pass.mine)
-        (D.view (disk_of (journal_in site.log)).disk.value).faults },
+        (D.view (disk_of (log_journal site.log)).disk.value).faults },
 }
 
 impl<D: Disk + Drop, N: Mounting, const C: u8> Held<D, N, C> {

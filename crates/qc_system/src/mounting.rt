@@ -7,7 +7,7 @@ use std::marker::Brand;
 /// how long a journal may become. Each call that names a system picks it.
 pub trait Mounting: Store {
     ghost use Rattle.std.specs.Prelude.{ℕ, Bool, List};
-    ghost use Rattle.qc_disk.specs.Disk.{View};
+    ghost use Rattle.qc_disk.specs.Disk.{DiskView};
 
     /// Whether the disk tells its bytes.
     ghost told: { ℕ → Bool };
@@ -16,7 +16,7 @@ pub trait Mounting: Store {
     ghost before: { ℕ → List (List ℕ) };
 
     /// The disk as it was then: its count of faults, its moment, and what a crash left before.
-    ghost first: { ℕ → View };
+    ghost first: { ℕ → DiskView };
 
     /// The most bytes of a journal.
     ghost limit: { ℕ };

@@ -1,7 +1,7 @@
 //! What a desk answers of a copy's grants, given in order, and with two of them exchanged.
 ghost use Rattle.std.specs.Prelude.{◌≡◌, true, IfOk, IfSome};
 ghost use Rattle.qc_event.specs.History.{grants};
-ghost use Rattle.qc_moss.specs.Follows.{Follows};
+ghost use Rattle.qc_moss.specs.Follows.{TableFollows};
 ghost use Rattle.qc_moss.specs.Locks.{unheld};
 ghost use Rattle.qc_desk.specs.Rules.{IsClient};
 ghost use Rattle.rows_desk.specs.OneCopy as words;
@@ -34,14 +34,14 @@ fn grant_next<N: Store, R: Wait>(
     requires over { (N.table ≡ words.table) × (N.base ≡ words.base) }
     requires copy { (copy.old.live ≡ true) × (copy.old.number ≡ 2) }
     requires start { locks.old.start ≡ words.start }
-    requires follows { Follows copy.old.seen (grants copy.old.seen 0) locks.old }
+    requires follows { TableFollows copy.old.seen (grants copy.old.seen 0) locks.old }
     requires seen { pass.old.seen ≡ copy.old.seen }
     ensures client { IsClient pass.new }
     ensures copy { IfOk result (λ o. IfSome o
         (λ g. (copy.new.live ≡ true) × (copy.new.number ≡ 2))) }
     ensures start { IfOk result (λ o. IfSome o (λ g. locks.new.start ≡ words.start)) }
     ensures follows { IfOk result (λ o. IfSome o
-        (λ g. Follows copy.new.seen (grants copy.new.seen 0) locks.new)) }
+        (λ g. TableFollows copy.new.seen (grants copy.new.seen 0) locks.new)) }
     ensures seen { IfOk result (λ o. IfSome o (λ g. pass.new.seen ≡ copy.new.seen)) }
 {
     let (_, ask) = one_request(rt, desk, pass)?;
@@ -89,7 +89,7 @@ fn grant_three<N: Store, R: Wait>(
     requires over { (N.table ≡ words.table) × (N.base ≡ words.base) }
     requires copy { (copy.old.live ≡ true) × (copy.old.number ≡ 2) }
     requires start { locks.old.start ≡ words.start }
-    requires follows { Follows copy.old.seen (grants copy.old.seen 0) locks.old }
+    requires follows { TableFollows copy.old.seen (grants copy.old.seen 0) locks.old }
     requires seen { pass.old.seen ≡ copy.old.seen }
 {
     let Some(one) = grant_next(rt, desk, pass, copy, locks)? else {

@@ -2,7 +2,7 @@
 ghost use Rattle.std.specs.Prelude.{◌≡◌, true, IfSome, OnOk};
 ghost use Rattle.qc_event.specs.History.{grants};
 ghost use Rattle.qc_event.specs.Standing.{Started, IsUser};
-ghost use Rattle.qc_moss.specs.Follows.{Follows};
+ghost use Rattle.qc_moss.specs.Follows.{TableFollows};
 ghost use Rattle.qc_moss.specs.Locks.{unheld};
 ghost use Rattle.qc_desk.specs.Calling.{Shown};
 ghost use Rattle.qc_desk.specs.Rules.{IsClient};
@@ -60,7 +60,7 @@ fn overtake<N: Store, R: Wait>(
     requires over { (N.table ≡ words.table) × (N.base ≡ words.base) }
     requires copy { (copy.old.live ≡ true) × (copy.old.number ≡ 2) }
     requires start { locks.old.start ≡ words.start }
-    requires follows { Follows copy.old.seen (grants copy.old.seen 0) locks.old }
+    requires follows { TableFollows copy.old.seen (grants copy.old.seen 0) locks.old }
     requires seen { pass.old.seen ≡ copy.old.seen }
 {
     let (top, ask) = one_request(rt, desk, pass)?;

@@ -5,7 +5,7 @@ ghost use Rattle.qc_event.specs.History.{grants};
 ghost use Rattle.qc_event.specs.Legal.{Legal};
 ghost use Rattle.qc_event.specs.Seats.{ledger_seat};
 ghost use Rattle.qc_event.specs.Tables.{setting_of};
-ghost use Rattle.qc_moss.specs.Follows.{Follows};
+ghost use Rattle.qc_moss.specs.Follows.{TableFollows};
 ghost use Rattle.qc_moss.specs.Locks.{unheld};
 ghost use Rattle.qc_desk.specs.Consulting.{HasAsked};
 ghost use Rattle.qc_desk.specs.Entries.{IsOlder};
@@ -104,12 +104,12 @@ fn refuse_dead<N: Store, R: Wait>(
     requires over { (N.table ≡ words.table) × (N.base ≡ words.base) }
     requires copy { (copy.old.live ≡ true) × (copy.old.number ≡ 2) }
     requires start { locks.old.start ≡ words.start }
-    requires follows { Follows copy.old.seen (grants copy.old.seen 0) locks.old }
+    requires follows { TableFollows copy.old.seen (grants copy.old.seen 0) locks.old }
     ensures same { (pass.new.live ≡ pass.old.live) × (pass.new.number ≡ pass.old.number)
         × (pass.new.out ≡ pass.old.out) }
     ensures copy { OnOk result ((copy.new.live ≡ true) × (copy.new.number ≡ 2)) }
     ensures start { OnOk result (locks.new.start ≡ words.start) }
-    ensures follows { OnOk result (Follows copy.new.seen (grants copy.new.seen 0) locks.new) }
+    ensures follows { OnOk result (TableFollows copy.new.seen (grants copy.new.seen 0) locks.new) }
     ensures seen { OnOk result (pass.new.seen ≡ copy.new.seen) }
 {
     let ask = dead_request(rt, desk, pass)?;
@@ -140,7 +140,7 @@ fn grant_free<N: Store, R: Wait>(
     requires over { (N.table ≡ words.table) × (N.base ≡ words.base) }
     requires copy { (copy.old.live ≡ true) × (copy.old.number ≡ 2) }
     requires start { locks.old.start ≡ words.start }
-    requires follows { Follows copy.old.seen (grants copy.old.seen 0) locks.old }
+    requires follows { TableFollows copy.old.seen (grants copy.old.seen 0) locks.old }
     requires seen { pass.old.seen ≡ copy.old.seen }
     ensures same { (pass.new.live ≡ pass.old.live) × (pass.new.number ≡ pass.old.number)
         × (pass.new.out ≡ pass.old.out) }
@@ -195,7 +195,7 @@ fn play<N: Store, R: Wait>(
         × (ledger.old.mine ≡ []) }
     requires copy { (copy.old.live ≡ true) × (copy.old.number ≡ 2) }
     requires start { locks.old.start ≡ words.start }
-    requires follows { Follows copy.old.seen (grants copy.old.seen 0) locks.old }
+    requires follows { TableFollows copy.old.seen (grants copy.old.seen 0) locks.old }
     ensures same { (first.new.live ≡ first.old.live) × (first.new.number ≡ first.old.number)
         × (first.new.out ≡ first.old.out) }
 {

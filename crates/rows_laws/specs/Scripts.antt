@@ -10,8 +10,8 @@ abbrev pub session_of : Net → List Numbered → SessionPlan
 session_of net bodies = record { fates = net.fates; hold = net.hold; tops = bodies }
 
 -- it follows the script of that session alone, in epoch 1
-abbrev pub Follows : Net → List Numbered → Past → Type 0
-Follows net bodies past = FollowsScript 1 net.patience (session_of net bodies ∷ []) past
+abbrev pub PastFollows : Net → List Numbered → Past → Type 0
+PastFollows net bodies past = FollowsScript 1 net.patience (session_of net bodies ∷ []) past
 
 -- it is a beginning of one that does
 abbrev pub Begins : Net → List Numbered → Past → Type 0

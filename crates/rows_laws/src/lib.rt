@@ -18,7 +18,7 @@ ghost use Rattle.rows_laws.specs.BranchSeats as seats;
 ghost use Rattle.rows_laws.specs.Crashes as crashes;
 ghost use Rattle.rows_laws.specs.Marks as marks;
 ghost use Rattle.rows_laws.specs.Musts as musts;
-ghost use Rattle.rows_laws.specs.Scripts.{Begins, Follows, session_of};
+ghost use Rattle.rows_laws.specs.Scripts.{Begins, PastFollows, session_of};
 ghost use Rattle.rows_laws.specs.Trails as trails;
 ghost use Rattle.rows_laws.specs.TwoSessions as two;
 ghost use Rattle.rows_laws.specs.Values as values;
@@ -61,23 +61,23 @@ pub fn accepts()
 /// a top before the one before it has ended; a request that is lost as no fate says, or is not lost as one says; a top
 /// that stays ready, though no one was unable to log it; another number and a mark; and a session under two seats.
 pub fn refuses()
-    ensures read_before_set { Follows trails.net trails.set_then_read
+    ensures read_before_set { PastFollows trails.net trails.set_then_read
         (reverse trails.read_before_set) → ⊥ }
-    ensures own_conflict { Follows trails.net trails.set_then_read
+    ensures own_conflict { PastFollows trails.net trails.set_then_read
         (reverse trails.own_conflict) → ⊥ }
-    ensures dropped_steps { Follows trails.net trails.child_and_abort
+    ensures dropped_steps { PastFollows trails.net trails.child_and_abort
         (reverse trails.dropped_steps) → ⊥ }
-    ensures late_commit { Follows trails.net trails.set_and_read
+    ensures late_commit { PastFollows trails.net trails.set_and_read
         (reverse trails.late_commit) → ⊥ }
-    ensures lost_elsewhere { Follows trails.net trails.read_alone
+    ensures lost_elsewhere { PastFollows trails.net trails.read_alone
         (reverse trails.lost_elsewhere) → ⊥ }
-    ensures elsewhere_lossy { Follows trails.lossy trails.set_then_read
+    ensures elsewhere_lossy { PastFollows trails.lossy trails.set_then_read
         (reverse (map trails.moved trails.first_run)) → ⊥ }
-    ensures stays_ready { Follows trails.net trails.set_then_read
+    ensures stays_ready { PastFollows trails.net trails.set_then_read
         (reverse (trails.first_cut trails.top_ready)) → ⊥ }
-    ensures marked_elsewhere { Follows trails.net trails.no_step
+    ensures marked_elsewhere { PastFollows trails.net trails.no_step
         (reverse trails.marked_elsewhere) → ⊥ }
-    ensures two_seats { Follows trails.net trails.two_steps (reverse trails.two_seats)
+    ensures two_seats { PastFollows trails.net trails.two_steps (reverse trails.two_seats)
         → ⊥ }
 {}
 
@@ -86,7 +86,7 @@ pub fn refuses()
 pub fn names_no_other()
     ensures parent_named { Asks (reverse trails.aborts_two) trails.top (trails.abort_body 1).plan
         (deeds (reverse trails.aborts_two) trails.top) trails.grandchild trails.first_child }
-    ensures top_not_named { Follows trails.net (trails.abort_body 1 ∷ [])
+    ensures top_not_named { PastFollows trails.net (trails.abort_body 1 ∷ [])
         (reverse trails.aborts_two) → ⊥ }
 {}
 
@@ -118,7 +118,7 @@ pub fn begins_otherwise()
         (reverse trails.set_skipped) → ⊥ }
     ensures read_before_set { Begins trails.net trails.set_then_read
         (reverse trails.both_started) → ⊥ }
-    ensures cut_off { Follows trails.net trails.set_then_read
+    ensures cut_off { PastFollows trails.net trails.set_then_read
         (reverse (trails.first_cut trails.read_asked)) → ⊥ }
 {}
 
@@ -142,17 +142,17 @@ pub fn goes_by_values()
 /// None of these follows its script: an `add` that writes what it read, stops at the last number, or writes nothing; a
 /// `sub` that stops at 0; and a `need` that fails with as much as is needed, or holds with less.
 pub fn goes_by_no_other_value()
-    ensures nothing_added { Follows trails.net (values.add 3)
+    ensures nothing_added { PastFollows trails.net (values.add 3)
         (reverse (values.changed 4 4)) → ⊥ }
-    ensures stops_at_the_last { Follows trails.net (values.add 1)
+    ensures stops_at_the_last { PastFollows trails.net (values.add 1)
         (reverse (values.changed values.last_value values.last_value)) → ⊥ }
-    ensures not_written { Follows trails.net (values.add 3) (reverse (values.enough 4))
+    ensures not_written { PastFollows trails.net (values.add 3) (reverse (values.enough 4))
         → ⊥ }
-    ensures stops_at_0 { Follows trails.net (values.sub 1) (reverse (values.changed 0 0))
+    ensures stops_at_0 { PastFollows trails.net (values.sub 1) (reverse (values.changed 0 0))
         → ⊥ }
-    ensures fails_with_enough { Follows trails.net (values.need 30)
+    ensures fails_with_enough { PastFollows trails.net (values.need 30)
         (reverse (values.too_little 30)) → ⊥ }
-    ensures holds_with_less { Follows trails.net (values.need 30)
+    ensures holds_with_less { PastFollows trails.net (values.need 30)
         (reverse (values.enough 29)) → ⊥ }
 {}
 
@@ -173,9 +173,9 @@ pub fn goes_by_children()
 /// None of these follows its script: a top that goes on behind a child that must commit and did not; one that is aborted
 /// for a child that need not; and a transaction that is aborted for an orphan, and no orphan.
 pub fn goes_by_no_other_child()
-    ensures goes_on { Follows trails.net (musts.child true) (reverse musts.went_on) → ⊥ }
-    ensures aborted { Follows trails.net (musts.child false) (reverse musts.aborted) → ⊥ }
-    ensures no_orphan { Follows trails.net (musts.far_body ∷ []) (reverse musts.no_orphan)
+    ensures goes_on { PastFollows trails.net (musts.child true) (reverse musts.went_on) → ⊥ }
+    ensures aborted { PastFollows trails.net (musts.child false) (reverse musts.aborted) → ⊥ }
+    ensures no_orphan { PastFollows trails.net (musts.far_body ∷ []) (reverse musts.no_orphan)
         → ⊥ }
 {}
 
@@ -192,9 +192,9 @@ pub fn passes_over_crashes()
 /// None of these follows its script: a top that commits where a copy crashes, before the set that stands behind, and one
 /// that reads and leaves out the set.
 pub fn stops_at_no_crash()
-    ensures nothing_done { Follows trails.net crashes.around
+    ensures nothing_done { PastFollows trails.net crashes.around
         (reverse crashes.nothing_done) → ⊥ }
-    ensures set_left_out { Follows trails.net crashes.around (reverse (values.enough 0))
+    ensures set_left_out { PastFollows trails.net crashes.around (reverse (values.enough 0))
         → ⊥ }
 {}
 
@@ -226,24 +226,24 @@ pub fn goes_by_marks()
 /// session, by another transaction, or under another seat; a top that goes on, or commits, though it marked its own
 /// session; and one that is aborted by a step `abort` of a transaction that was killed before it.
 pub fn goes_by_no_other_mark()
-    ensures of_no_step { Follows trails.net trails.no_step (reverse trails.marked) → ⊥ }
-    ensures left_out { Follows trails.net (marks.kill_then_read 1)
+    ensures of_no_step { PastFollows trails.net trails.no_step (reverse trails.marked) → ⊥ }
+    ensures left_out { PastFollows trails.net (marks.kill_then_read 1)
         (reverse (trails.user trails.client trails.top ∷ marks.reads_on)) → ⊥ }
-    ensures left_out_at_last { Follows trails.net (marks.kill_alone 1)
+    ensures left_out_at_last { PastFollows trails.net (marks.kill_alone 1)
         (reverse crashes.nothing_done) → ⊥ }
-    ensures twice { Follows trails.net (marks.kill_then_read 1) (reverse (marks.marks_then 1
+    ensures twice { PastFollows trails.net (marks.kill_then_read 1) (reverse (marks.marks_then 1
         (trails.by trails.client (event.Mark trails.top 1) ∷ marks.reads_on))) → ⊥ }
-    ensures another_session { Follows trails.net (marks.kill_then_read 1)
+    ensures another_session { PastFollows trails.net (marks.kill_then_read 1)
         (reverse (marks.marks_then 2 marks.reads_on)) → ⊥ }
-    ensures by_another { Follows trails.net marks.child_kills
+    ensures by_another { PastFollows trails.net marks.child_kills
         (reverse marks.parent_marks) → ⊥ }
-    ensures another_seat { Follows trails.net (marks.kill_alone 1)
+    ensures another_seat { PastFollows trails.net (marks.kill_alone 1)
         (reverse marks.marks_elsewhere) → ⊥ }
-    ensures goes_on { Follows trails.net (marks.kill_then_read 0)
+    ensures goes_on { PastFollows trails.net (marks.kill_then_read 0)
         (reverse (marks.marks_then 0 marks.reads_on)) → ⊥ }
-    ensures commits { Follows trails.net (marks.kill_alone 0)
+    ensures commits { PastFollows trails.net (marks.kill_alone 0)
         (reverse (marks.marks_then 0 values.commits)) → ⊥ }
-    ensures killed_asks { Follows trails.net (trails.abort_body 2 ∷ [])
+    ensures killed_asks { PastFollows trails.net (trails.abort_body 2 ∷ [])
         (reverse marks.killed_asks) → ⊥ }
 {}
 
@@ -306,14 +306,14 @@ pub fn runs_together()
 /// has a third; one session that runs its next top before the one before it is over; and a top that another session's
 /// aborts.
 pub fn runs_not_together()
-    ensures not_in_script { Follows trails.net trails.read_alone (reverse two.interleaved) → ⊥ }
+    ensures not_in_script { PastFollows trails.net trails.read_alone (reverse two.interleaved) → ⊥ }
     ensures swapped { two.FollowsBoth (session_of trails.net trails.no_step
         ∷ session_of trails.net trails.read_alone ∷ [])
         (reverse two.interleaved) → ⊥ }
     ensures third { two.FollowsBoth (two.reader_and_idler
         ++ session_of trails.net trails.no_step ∷ [])
         (reverse two.interleaved) → ⊥ }
-    ensures of_one_session { Follows trails.net (trails.read_alone ++ trails.no_step)
+    ensures of_one_session { PastFollows trails.net (trails.read_alone ++ trails.no_step)
         (reverse two.of_one_session) → ⊥ }
     ensures aborts_the_other { two.FollowsBoth two.reader_and_idler
         (reverse two.aborts_the_other) → ⊥ }

@@ -41,7 +41,7 @@ use Rattle.qc_desk.proofs.Seers.{older_trans}
 use Rattle.qc_desk.specs.Rules.{IsClient}
 use Rattle.qc_site.specs.AtDesk.{IsGranted}
 use Rattle.rows_serve.specs.declared.client.Writer.{Writer}
-use Rattle.rows_serve.specs.Requests.{IsFirst, MayPut, Stands}
+use Rattle.rows_serve.specs.Requests.{IsFirst, MayPut, RequestStands}
 use Rattle.rows_serve.specs.TwoRecords.{IsOver}
 use Rattle.qc_desk.proofs.NewChild as child
 use Rattle.rows_serve.proofs.Children as children
@@ -180,7 +180,7 @@ module _ (over : Table) (base : List (List Tuple)) (o : IsOver over base) where
       pub set_later : IsOlder u.seen y.seen
       set_later = older_trans u.seen v.seen y.seen (entered_as_later against_nothing (IsTop epoch 0 0 top) u v t) since_top
 
-      pub set_stands : (writer : Option Writer) → Legal s v.seen → Legal s y.seen → Stands y.seen (record { top = top; ask = getting access rec; writer = writer; granted = None })
+      pub set_stands : (writer : Option Writer) → Legal s v.seen → Legal s y.seen → RequestStands y.seen (record { top = top; ask = getting access rec; writer = writer; granted = None })
       set_stands writer legal_v legal_y = record {
         begun = started_later v.seen y.seen top (λ b. IsUser b.kind) since_top (top_begun s epoch 0 0 u v top t legal_v);
         asked = has_asked s (against_access access) x y (getting access rec) q legal_y;
@@ -281,7 +281,7 @@ module _ (over : Table) (base : List (List Tuple)) (o : IsOver over base) where
             older_trans v.seen w.seen y.seen (entered_later (against_access ask.access) (event.End ask.access (Commit (Reply t))) v w e)
             (older_trans w.seen x.seen y.seen (later manager kind.Access access w x a) (entered_later (against_access access) (event.Ask (puts access)) x y q))
 
-        pub put_stands : (top : Name) → Started v.seen top (λ b. IsUser b.kind) → Legal s y.seen → Stands y.seen (record { top = top; ask = puts access; writer = None; granted = None })
+        pub put_stands : (top : Name) → Started v.seen top (λ b. IsUser b.kind) → Legal s y.seen → RequestStands y.seen (record { top = top; ask = puts access; writer = None; granted = None })
         put_stands top begun legal_y = record {
           begun = started_later v.seen y.seen top (λ b. IsUser b.kind) put_later begun;
           asked = has_asked s (against_access access) x y (puts access) q legal_y;

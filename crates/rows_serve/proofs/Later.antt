@@ -24,7 +24,7 @@ use Rattle.qc_site.specs.AtDesk.{IsGranted}
 use Rattle.rows_serve.specs.declared.client.Client.{Client}
 use Rattle.rows_serve.specs.declared.client.Request.{Request}
 use Rattle.rows_serve.specs.declared.client.Writer.{Writer}
-use Rattle.rows_serve.specs.Requests.{Stands, IsFirst, IsFirstOf, Knows}
+use Rattle.rows_serve.specs.Requests.{RequestStands, IsFirst, IsFirstOf, Knows}
 use Rattle.rows_serve.proofs.Children as children
 
 -- what is told of a value that is there
@@ -36,7 +36,7 @@ granted_later before now ask None older h = h
 granted_later before now ask (Some t) older h =
     ap (λ p. granted p ask.access) older.1 ∙ is_stays (λ e. grant_in ask.access e.event) older.0 before (record { copy = 0; grant = grant_with ask t }) h
 
-pub stands_later : (before now : Past) (r : Request) → IsOlder before now → Stands before r → Stands now r
+pub stands_later : (before now : Past) (r : Request) → IsOlder before now → RequestStands before r → RequestStands now r
 stands_later before now r older h = record {
   begun = started_later before now r.top (λ b. IsUser b.kind) older h.begun;
   asked = asked_later before now r.ask older h.asked;
@@ -44,7 +44,7 @@ stands_later before now r older h = record {
   granted = granted_later before now r.ask r.granted older h.granted;
 }
 
-pub all_later : (before now : Past) (o : Option Request) → IsOlder before now → IfSome o (Stands before) → IfSome o (Stands now)
+pub all_later : (before now : Past) (o : Option Request) → IsOlder before now → IfSome o (RequestStands before) → IfSome o (RequestStands now)
 all_later before now None older h = h
 all_later before now (Some r) older h = stands_later before now r older h
 
@@ -99,8 +99,8 @@ left : {X : Type 0} (o : Option X) (P Q : X → Type 0) → IfSome o (λ x. P x 
 left None P Q h = h
 left (Some x) P Q h = h.0
 
-pub knows : (past : Past) (seat : ℕ) (now before : Option Request) → IfSome now (Stands past) → IfSome now (IsFirstOf past seat) → IfSome before (Stands past) → Knows past seat (record { now = now; before = before })
-knows past seat now before stands first earlier = record { now = both now (Stands past) (IsFirstOf past seat) stands first; before = earlier }
+pub knows : (past : Past) (seat : ℕ) (now before : Option Request) → IfSome now (RequestStands past) → IfSome now (IsFirstOf past seat) → IfSome before (RequestStands past) → Knows past seat (record { now = now; before = before })
+knows past seat now before stands first earlier = record { now = both now (RequestStands past) (IsFirstOf past seat) stands first; before = earlier }
 
-pub stands_now : (past : Past) (seat : ℕ) (client : Client) → Knows past seat client → IfSome client.now (Stands past)
-stands_now past seat client k = left client.now (Stands past) (IsFirstOf past seat) k.now
+pub stands_now : (past : Past) (seat : ℕ) (client : Client) → Knows past seat client → IfSome client.now (RequestStands past)
+stands_now past seat client k = left client.now (RequestStands past) (IsFirstOf past seat) k.now

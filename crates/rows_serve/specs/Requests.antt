@@ -14,7 +14,7 @@ use Rattle.rows_serve.specs.declared.client.Client.{Client}
 use Rattle.rows_serve.specs.declared.client.Request.{Request}
 
 -- Its top was started, it stands in the history, and what the copy granted it.
-pub record Stands (past : Past) (r : Request) : Type 0 where
+pub record RequestStands (past : Past) (r : Request) : Type 0 where
   pub begun : Started past r.top (λ b. IsUser b.kind)
   pub asked : HasAsked past r.ask
   pub to_copy : r.ask.copy ≡ 0
@@ -42,5 +42,5 @@ IsFirstOf past seat r = IfSome r.writer (λ w. IsFirst past seat r.ask w.manager
 
 -- the client's request, and the one before
 pub record Knows (past : Past) (seat : ℕ) (client : Client) : Type 0 where
-  pub now : IfSome client.now (λ r. Stands past r × IsFirstOf past seat r)
-  pub before : IfSome client.before (Stands past)
+  pub now : IfSome client.now (λ r. RequestStands past r × IsFirstOf past seat r)
+  pub before : IfSome client.before (RequestStands past)

@@ -5,7 +5,7 @@ ghost use Rattle.qc_event.specs.History.{Past};
 ghost use Rattle.qc_desk.specs.Entries.{IsOlder};
 ghost use Rattle.qc_desk.specs.Rules.{IsClient};
 ghost use Rattle.qc_site.specs.AtDesk.{IsGranted};
-ghost use Rattle.rows_serve.specs.Requests.{IsFirst, IsFirstOf, Knows, MayPut, Stands};
+ghost use Rattle.rows_serve.specs.Requests.{IsFirst, IsFirstOf, Knows, MayPut, RequestStands};
 ghost use Rattle.rows_serve.specs.TwoRecords.{IsOver};
 
 use qc_config::{Op, Tuple};
@@ -51,8 +51,8 @@ impl Client {
 
 /// The request, as that of no known manager.
 pub(crate) fn plain(request: &Option<Request>) -> Option<Request>
-    ensures stands { (past : Past) → IfSome request.now (Stands past)
-        → IfSome result (Stands past) }
+    ensures stands { (past : Past) → IfSome request.now (RequestStands past)
+        → IfSome result (RequestStands past) }
     ensures first { (past : Past) (seat : ℕ) → IfSome result (IsFirstOf past seat) }
 {
     let request = request.as_ref()?;
@@ -76,7 +76,7 @@ pub(crate) fn set<N: Store, R: Wait>(
     ensures same { (pass.new.live ≡ pass.old.live) × (pass.new.number ≡ pass.old.number)
         × (pass.new.out ≡ pass.old.out) }
     ensures older { OnOk result (IsOlder pass.old.seen pass.new.seen) }
-    ensures stands { IfOk result (Stands pass.new.seen) }
+    ensures stands { IfOk result (RequestStands pass.new.seen) }
     ensures first { IfOk result (IsFirstOf pass.new.seen pass.old.number) }
 {
     let top = desk.start_top(rt, pass, 0, 0)?;
@@ -127,7 +127,7 @@ pub(crate) fn put<N: Store, R: Wait>(
 ) -> Result<Request, DeskNo>
     requires client { IsClient pass.old }
     requires over { IsOver N.table N.base }
-    requires stands { Stands pass.old.seen request.now }
+    requires stands { RequestStands pass.old.seen request.now }
     requires first { IsFirst pass.old.seen pass.old.number request.now.ask writer.now.manager
         writer.now.value }
     requires granted { IsGranted 0 pass.old.seen (grant_with request.now.ask tuple.now) }
@@ -135,7 +135,7 @@ pub(crate) fn put<N: Store, R: Wait>(
     ensures same { (pass.new.live ≡ pass.old.live) × (pass.new.number ≡ pass.old.number)
         × (pass.new.out ≡ pass.old.out) }
     ensures older { OnOk result (IsOlder pass.old.seen pass.new.seen) }
-    ensures stands { IfOk result (Stands pass.new.seen) }
+    ensures stands { IfOk result (RequestStands pass.new.seen) }
     ensures first { IfOk result (IsFirstOf pass.new.seen pass.old.number) }
 {
     desk.take_reply(rt, pass, &request.ask.access, tuple)?;
@@ -169,7 +169,7 @@ pub(crate) fn abort<N: Store, R: Wait>(
     request: &Request,
 ) -> Result<(), DeskNo>
     requires client { IsClient pass.old }
-    requires stands { Stands pass.old.seen request.now }
+    requires stands { RequestStands pass.old.seen request.now }
     ensures same { (pass.new.live ≡ pass.old.live) × (pass.new.number ≡ pass.old.number)
         × (pass.new.out ≡ pass.old.out) }
     ensures older { OnOk result (IsOlder pass.old.seen pass.new.seen) }

@@ -7,7 +7,7 @@ ghost use Rattle.qc_event.specs.History.{Past};
 ghost use Rattle.qc_desk.specs.Entries.{IsOlder};
 ghost use Rattle.qc_desk.specs.Rules.{IsClient};
 ghost use Rattle.qc_site.specs.AtDesk.{IsGranted};
-ghost use Rattle.rows_serve.specs.Requests.{IsFirstOf, Stands};
+ghost use Rattle.rows_serve.specs.Requests.{IsFirstOf, RequestStands};
 ghost use Rattle.rows_serve.specs.TwoRecords.{IsOver};
 
 use crate::client::Request;
@@ -19,9 +19,9 @@ use std::sync::Wait;
 
 // A request keeps what it was granted.
 fn note(request: &mut Request, answer: &Answered)
-    ensures stands { (past : Past) → Stands past request.old
+    ensures stands { (past : Past) → RequestStands past request.old
         → ((tuple : Tuple) → answer.now ≡ Granted tuple
-        → IsGranted 0 past (grant_with request.old.ask tuple)) → Stands past request.new }
+        → IsGranted 0 past (grant_with request.old.ask tuple)) → RequestStands past request.new }
     ensures ask { request.new.ask ≡ request.old.ask }
     ensures writer { request.new.writer ≡ request.old.writer }
 {
@@ -41,12 +41,12 @@ pub(crate) fn serve<N: Store, R: Wait>(
 ) -> Result<Answered, Short>
     requires client { IsClient pass.old }
     requires over { IsOver N.table N.base }
-    requires stands { Stands pass.old.seen request.old }
+    requires stands { RequestStands pass.old.seen request.old }
     requires first { IsFirstOf pass.old.seen pass.old.number request.old }
     ensures same { (pass.new.live ≡ pass.old.live) × (pass.new.number ≡ pass.old.number)
         × (pass.new.out ≡ pass.old.out) }
     ensures older { IsOlder pass.old.seen pass.new.seen }
-    ensures stands { Stands pass.new.seen request.new }
+    ensures stands { RequestStands pass.new.seen request.new }
     ensures first { IsFirstOf pass.new.seen pass.old.number request.new }
 {
     pass.known();

@@ -2,7 +2,7 @@
 
 use crate::case::Case;
 use crate::sources::Scanned;
-use crate::told::Told;
+use crate::told::TrailTold;
 use crate::wrong::Wrong;
 use qc_event::{Answered, Ask, Entry, Event, Grant, Name, Op, Tuple};
 use qc_moss::{Locks, Source, Verdict, consult_locks, replay_locks};
@@ -122,18 +122,18 @@ fn copy_by(case: &Case, h: &[Entry], copy: u8) -> Result<OwnCopy, Wrong> {
 }
 
 /// What a copy that made the history's grants answers an access that asked it, twice.
-pub fn serve(case: &Case, h: &[Entry], words: &mut Words<'_>) -> Result<Told, Wrong> {
+pub fn serve(case: &Case, h: &[Entry], words: &mut Words<'_>) -> Result<TrailTold, Wrong> {
     let copy = words.number()?;
     let ask = request(h, copy, &words.name()?).ok_or(Wrong::Ask)?;
     let mut copy = copy_by(case, h, copy)?;
     let first = copy.serve(&ask, h)?;
     let second = copy.serve(&ask, h)?;
-    Ok(Told::Served(first, second, copy.grants.len()))
+    Ok(TrailTold::Served(first, second, copy.grants.len()))
 }
 
 /// What a copy that made the history's grants granted an access.
-pub fn again(case: &Case, h: &[Entry], words: &mut Words<'_>) -> Result<Told, Wrong> {
+pub fn again(case: &Case, h: &[Entry], words: &mut Words<'_>) -> Result<TrailTold, Wrong> {
     let copy = words.number()?;
     let copy = copy_by(case, h, copy)?;
-    Ok(Told::Tuple(copy.again(&words.name()?)))
+    Ok(TrailTold::Tuple(copy.again(&words.name()?)))
 }

@@ -2,7 +2,7 @@
 ghost use Rattle.std.specs.Prelude.{◌<◌, IsTrue, length};
 ghost use Rattle.qc_names.specs.Name.{longest};
 
-use crate::told::Told;
+use crate::told::TrailTold;
 use crate::wrong::Wrong;
 use qc_event::{Entry, Event, Name, dead, outcome};
 use qc_history::Index;
@@ -54,7 +54,7 @@ impl Compared {
 
 /// The history entry by entry, and after each how every name stands that has started: how many entries and looks
 /// that are, and whether a scan and an index answer them alike.
-pub fn looks(alloc: Global, h: &[Entry]) -> Result<Told, Wrong> {
+pub fn looks(alloc: Global, h: &[Entry]) -> Result<TrailTold, Wrong> {
     let mut looks = Compared {
         count: h.len(),
         alike: true,
@@ -64,7 +64,7 @@ pub fn looks(alloc: Global, h: &[Entry]) -> Result<Told, Wrong> {
         looks.compare_all(past, &index_of(alloc, past)?);
     }
     let Compared { count, alike } = looks;
-    Ok(Told::Looks(count, alike))
+    Ok(TrailTold::Looks(count, alike))
 }
 
 // Whether a name is below a top, or one, and can have children.
@@ -76,24 +76,29 @@ fn may_have_children(name: &Name) -> bool
 }
 
 /// What the index tells of a name.
-pub fn told(alloc: Global, h: &[Entry], word: &str, words: &mut Words<'_>) -> Result<Told, Wrong> {
+pub fn told(
+    alloc: Global,
+    h: &[Entry],
+    word: &str,
+    words: &mut Words<'_>,
+) -> Result<TrailTold, Wrong> {
     let index = index_of(alloc, h)?;
     let name = words.name()?;
     if !may_have_children(&name) {
         return Err(Wrong::Place);
     }
     match word {
-        "indexed_kind" => Ok(Told::Kind(index.kind(&trail_of(alloc, h)?, &name))),
-        "start" => Ok(Told::Place(index.start(&name))),
-        "end" => Ok(Told::Place(index.end(&name))),
-        "ready" => Ok(Told::Place(index.ready(&name))),
-        "is_ready" => Ok(Told::Truth(index.is_ready(&name))),
-        "children" => Ok(Told::Count(index.children(&name))),
-        _ => Ok(Told::Name(index.open_child(&name))),
+        "indexed_kind" => Ok(TrailTold::Kind(index.kind(&trail_of(alloc, h)?, &name))),
+        "start" => Ok(TrailTold::Place(index.start(&name))),
+        "end" => Ok(TrailTold::Place(index.end(&name))),
+        "ready" => Ok(TrailTold::Place(index.ready(&name))),
+        "is_ready" => Ok(TrailTold::Truth(index.is_ready(&name))),
+        "children" => Ok(TrailTold::Count(index.children(&name))),
+        _ => Ok(TrailTold::Name(index.open_child(&name))),
     }
 }
 
 /// How many tops have started.
-pub fn tops(alloc: Global, h: &[Entry]) -> Result<Told, Wrong> {
-    Ok(Told::Count(index_of(alloc, h)?.tops()))
+pub fn tops(alloc: Global, h: &[Entry]) -> Result<TrailTold, Wrong> {
+    Ok(TrailTold::Count(index_of(alloc, h)?.tops()))
 }

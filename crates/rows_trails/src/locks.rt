@@ -3,19 +3,19 @@ ghost use Rattle.std.specs.Prelude.{◌<◌, IfOk, length};
 
 use crate::case::Case;
 use crate::copies::OwnCopy;
-use crate::told::Told;
+use crate::told::TrailTold;
 use crate::wrong::Wrong;
 use qc_moss::Locks;
 use rows_text::Words;
 
 /// How many records the copy has.
-pub fn records(locks: &Locks) -> Told {
-    Told::Count(locks.records())
+pub fn records(locks: &Locks) -> TrailTold {
+    TrailTold::Count(locks.records())
 }
 
 /// What the copy granted an access.
-pub fn granted(copy: &OwnCopy, words: &mut Words<'_>) -> Result<Told, Wrong> {
-    Ok(Told::Tuple(copy.again(&words.name()?)))
+pub fn granted(copy: &OwnCopy, words: &mut Words<'_>) -> Result<TrailTold, Wrong> {
+    Ok(TrailTold::Tuple(copy.again(&words.name()?)))
 }
 
 // The next word, a record of the copy.
@@ -31,21 +31,21 @@ fn record(locks: &Locks, words: &mut Words<'_>) -> Result<u8, Wrong>
 }
 
 /// Whether an access may read a record, or write it.
-pub fn test(locks: &Locks, words: &mut Words<'_>, write: bool) -> Result<Told, Wrong> {
+pub fn test(locks: &Locks, words: &mut Words<'_>, write: bool) -> Result<TrailTold, Wrong> {
     let access = words.name()?;
     let rec = record(locks, words)?;
-    Ok(Told::Test(locks.test(&access, rec, write)))
+    Ok(TrailTold::Test(locks.test(&access, rec, write)))
 }
 
 /// The locks of a record.
-pub fn holders(case: &Case, words: &mut Words<'_>) -> Result<Told, Wrong> {
+pub fn holders(case: &Case, words: &mut Words<'_>) -> Result<TrailTold, Wrong> {
     let locks = &case.copy.locks;
     let rec = record(locks, words)?;
-    Ok(Told::Holders(locks.holders(rec).to_vec(case.alloc)?))
+    Ok(TrailTold::Holders(locks.holders(rec).to_vec(case.alloc)?))
 }
 
 /// What the copy holds of a record.
-pub fn holds(locks: &Locks, words: &mut Words<'_>) -> Result<Told, Wrong> {
+pub fn holds(locks: &Locks, words: &mut Words<'_>) -> Result<TrailTold, Wrong> {
     let rec = record(locks, words)?;
-    Ok(Told::Tuple(Some(locks.seen_by(rec))))
+    Ok(TrailTold::Tuple(Some(locks.seen_by(rec))))
 }

@@ -28,11 +28,11 @@ use case::Case;
 use question::answer;
 use setting::Setting;
 use std::io;
-use told::Told;
+use told::TrailTold;
 use wrong::Wrong;
 
 // Takes a line that sets up the case, or answers a question. A line that begins with a digit is an entry.
-fn take(case: &mut Case, line: &str) -> Result<Option<Told>, Wrong> {
+fn take(case: &mut Case, line: &str) -> Result<Option<TrailTold>, Wrong> {
     if line.starts_with(|c: char| c.is_ascii_digit()) {
         case.add(line)?;
         return Ok(None);

@@ -2,15 +2,15 @@
 
 use crate::case::Case;
 use crate::edit::{copied, edited};
-use crate::told::Told;
+use crate::told::TrailTold;
 use crate::wrong::Wrong;
 use crate::{copies, histories, indexed, locks, orders};
 use qc_event::Entry;
 use rows_text::{BadLine, Words};
 
-fn told(case: &Case, h: &[Entry], word: &str, words: &mut Words<'_>) -> Result<Told, Wrong> {
+fn told(case: &Case, h: &[Entry], word: &str, words: &mut Words<'_>) -> Result<TrailTold, Wrong> {
     match word {
-        "entries" => Ok(Told::Count(h.len())),
+        "entries" => Ok(TrailTold::Count(h.len())),
         "ancestor" => histories::ancestor(words),
         "meet" => histories::meet(words),
         "kind" => histories::started(h, words),
@@ -44,7 +44,7 @@ fn told(case: &Case, h: &[Entry], word: &str, words: &mut Words<'_>) -> Result<T
 }
 
 // What a question without edits is answered of a history.
-fn asked(case: &Case, h: &[Entry], question: &str) -> Result<Told, Wrong> {
+fn asked(case: &Case, h: &[Entry], question: &str) -> Result<TrailTold, Wrong> {
     let mut words = Words::new(question);
     let word = words.word()?;
     let told = told(case, h, word, &mut words)?;
@@ -53,7 +53,7 @@ fn asked(case: &Case, h: &[Entry], question: &str) -> Result<Told, Wrong> {
 }
 
 /// What the question of a line is answered, of the history with the line's edits.
-pub fn answer(case: &Case, line: &str) -> Result<Told, Wrong> {
+pub fn answer(case: &Case, line: &str) -> Result<TrailTold, Wrong> {
     let Some((edits, question)) = line.rsplit_once(';') else {
         return asked(case, case.history(), line);
     };

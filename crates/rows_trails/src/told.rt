@@ -8,7 +8,7 @@ use std::fmt;
 
 /// What a question is answered.
 #[derive(Drop)]
-pub enum Told {
+pub enum TrailTold {
     Truth(bool),
     Count(usize),
     Name(Option<Name>),
@@ -151,27 +151,27 @@ fn write_place<W: fmt::Write>(f: &mut fmt::Formatter<W>, place: Option<u32>) -> 
     }
 }
 
-impl fmt::Display for Told {
+impl fmt::Display for TrailTold {
     fn fmt<W: fmt::Write>(&self, f: &mut fmt::Formatter<W>) -> fmt::Result {
         match self {
-            Told::Truth(true) => write!(f, "yes"),
-            Told::Truth(false) => write!(f, "no"),
-            Told::Count(count) => write!(f, "{count}"),
-            Told::Name(name) => write_name(f, name),
-            Told::Outcome(outcome) => write!(f, "{outcome:?}"),
-            Told::Kind(kind) => write_kind(f, kind),
-            Told::Tuple(tuple) => write_tuple(f, tuple),
-            Told::Place(place) => write_place(f, *place),
-            Told::Looks(looks, true) => write!(f, "{looks}, alike"),
-            Told::Looks(looks, false) => write!(f, "{looks}, not alike"),
-            Told::Verdict(verdict) => write_verdict(f, verdict),
-            Told::Order(events) => write_order(f, events.as_slice()),
-            Told::Values(values) => write_values(f, values.as_slice()),
-            Told::NotAllowed(place) => write!(f, "event {place} is not allowed"),
-            Told::Served(first, second, grants) => write_served(f, *first, *second, *grants),
-            Told::Test(Test::Free) => write!(f, "free"),
-            Told::Test(Test::Held(first)) => write!(f, "held by {first}"),
-            Told::Holders(holders) => write_holders(f, holders.as_slice()),
+            TrailTold::Truth(true) => write!(f, "yes"),
+            TrailTold::Truth(false) => write!(f, "no"),
+            TrailTold::Count(count) => write!(f, "{count}"),
+            TrailTold::Name(name) => write_name(f, name),
+            TrailTold::Outcome(outcome) => write!(f, "{outcome:?}"),
+            TrailTold::Kind(kind) => write_kind(f, kind),
+            TrailTold::Tuple(tuple) => write_tuple(f, tuple),
+            TrailTold::Place(place) => write_place(f, *place),
+            TrailTold::Looks(looks, true) => write!(f, "{looks}, alike"),
+            TrailTold::Looks(looks, false) => write!(f, "{looks}, not alike"),
+            TrailTold::Verdict(verdict) => write_verdict(f, verdict),
+            TrailTold::Order(events) => write_order(f, events.as_slice()),
+            TrailTold::Values(values) => write_values(f, values.as_slice()),
+            TrailTold::NotAllowed(place) => write!(f, "event {place} is not allowed"),
+            TrailTold::Served(first, second, grants) => write_served(f, *first, *second, *grants),
+            TrailTold::Test(Test::Free) => write!(f, "free"),
+            TrailTold::Test(Test::Held(first)) => write!(f, "held by {first}"),
+            TrailTold::Holders(holders) => write_holders(f, holders.as_slice()),
         }
     }
 }

@@ -11,7 +11,7 @@ use Rattle.qc_script.specs.declared.tx.TxNo.TheVariants as tx_no
 use Rattle.qc_script.specs.Calls.{by_client, Refuses, WasRefused}
 use Rattle.qc_script.specs.Client.{Client, ClientView, mine, Made, HasJoined}
 use Rattle.qc_script.specs.Plan.{Plan, Numbered, PlanFits}
-use Rattle.qc_interp.specs.AtOnce.{IsRefusal, TriesEnd, came_at_last}
+use Rattle.qc_interp.specs.AtOnce.{IsCallRefusal, TriesEnd, came_at_last}
 use Rattle.qc_interp.specs.Branches.{RanTries, AreTriesOurs, tries_by}
 use Rattle.qc_interp.specs.Deeds.{Deed}
 use Rattle.qc_interp.specs.Reach.{Reach}
@@ -41,7 +41,7 @@ pub record RefusedTry (v x : ClientView) (of : Name) (body : Numbered) (why : Tx
   pub goes : GoesOn v.client v.seen of x.client x.seen
   pub ran : (reach : Reach) → RanTries reach (Unit {0}) x.client body x.seen
   pub due : AreTriesOurs x.client x.seen → was_tried (mine x.client x.seen) false body.tries (map Deed.child (tries_by x.client x.seen)) ≡ false
-  pub refused : ((s : Short) → why ≡ tx_no.Short s → ⊥) → Refuses x.seen x.client.root why × IsRefusal why
+  pub refused : ((s : Short) → why ≡ tx_no.Short s → ⊥) → Refuses x.seen x.client.root why × IsCallRefusal why
 
 module _ (v w y : ClientView) (of n : Name) (body : Numbered) (counter : ℕ) (goes : GoesOn v.client v.seen of w.client w.seen) (start : Past) (runs : TryRuns w.client body start n w.seen (body.tries - counter)) (joined : HasJoined w.client w.seen y.client) (steps : Plan) (plan : steps ≡ body.plan) where
   abbrev left : ℕ
@@ -82,7 +82,7 @@ module _ (v w y : ClientView) (of n : Name) (body : Numbered) (counter : ℕ) (g
             goes = further;
             ran = λ reach. subst (λ d. RanTries reach (Unit {0}) d body x.seen) (sym same) (tries_stop y.client body start y.seen x.seen (Some n) _ due made reach);
             due = subst (λ d. AreTriesOurs d x.seen → was_tried (mine d x.seen) false body.tries (map Deed.child (tries_by d x.seen)) ≡ false) (sym same) (try_was_due y.client body start y.seen x.seen (Some n) _ due made);
-            refused = λ other. subst (λ r. Refuses x.seen r why × IsRefusal why) (sym further.root) (why_refused y.client of y.seen x.seen why refused other);
+            refused = λ other. subst (λ r. Refuses x.seen r why × IsCallRefusal why) (sym further.root) (why_refused y.client of y.seen x.seen why refused other);
           }
 
       -- it began

@@ -14,7 +14,7 @@ use Rattle.qc_script.specs.Plan.{Numbered}
 use Rattle.qc_event.specs.Standing.{Started, IsUser}
 use Rattle.qc_event.proofs.Later.{started_still}
 use Rattle.qc_event.specs.declared.short.Short.TheVariants.{Memory}
-use Rattle.qc_interp.specs.AtOnce.{Stands, HasBegun, NotBegun}
+use Rattle.qc_interp.specs.AtOnce.{StandingBranch, HasBegun, NotBegun}
 use Rattle.qc_interp.proofs.Scopes.Growth.{made_itself, made_after, made_both}
 use Rattle.qc_interp.proofs.Branching.Joined.{joined_itself}
 use Rattle.qc_interp.proofs.Branching.MadeBy.{none_of, none_mine, none_more, none_under, made_among, joins_more, left_out, refused_later}
@@ -102,7 +102,7 @@ pub none_begun : (v : ClientView) (of : Name) → Legal v.client.setting v.seen 
 none_begun v of legal = record { joined = joined_itself v.client v.seen; refused = (made_itself v.client v.seen legal, tt) }
 
 -- behind one that was begun the next may begin
-module _ (v w : ClientView) (of : Name) (b : Stands) (begun : HasBegun v w of b) where
+module _ (v w : ClientView) (of : Name) (b : StandingBranch) (begun : HasBegun v w of b) where
   pub begun_legal : Legal w.client.setting w.seen
   begun_legal = subst (λ (c : Client). Legal c.setting w.seen) (sym begun.left) begun.made.legal
 

@@ -15,7 +15,7 @@ use Rattle.qc_event.proofs.Later.{started_still}
 use Rattle.qc_event.specs.declared.short.Short.{Short}
 use Rattle.qc_script.specs.Client.{Client, ClientView, mine, Made, IsLater, HasJoined}
 use Rattle.qc_script.specs.Plan.{Numbered}
-use Rattle.qc_interp.specs.AtOnce.{MayRun, at_first, IsRefusal, TriesEnd, came_at_last}
+use Rattle.qc_interp.specs.AtOnce.{MayRun, at_first, IsCallRefusal, TriesEnd, came_at_last}
 use Rattle.qc_interp.specs.Branches.{RanTries, AreTriesOurs, stays_with, tries_by}
 use Rattle.qc_interp.specs.Deeds.{Deed}
 use Rattle.qc_interp.specs.Rows.{was_tried}
@@ -118,7 +118,7 @@ goes_on c before of d e now next g joined later =
     }
 
 -- why it was refused to begin, where that is not want of memory or room
-pub why_refused : (c : Client) (of : Name) (now mid : Past) (why : TxNo) → WasRefused c of now mid why → ((s : Short) → why ≡ tx_no.Short s → ⊥) → Refuses mid of why × IsRefusal why
+pub why_refused : (c : Client) (of : Name) (now mid : Past) (why : TxNo) → WasRefused c of now mid why → ((s : Short) → why ≡ tx_no.Short s → ⊥) → Refuses mid of why × IsCallRefusal why
 why_refused c of now mid (tx_no.Short s) refused other = absurd (other s refl)
 why_refused c of now mid (tx_no.Orphan a) refused other = (refused.1, tt)
 why_refused c of now mid tx_no.Ended refused other = (refused.1, tt)
@@ -130,7 +130,7 @@ why_refused c of now mid tx_no.Last refused other = absurd refused.1
 why_refused c of now mid tx_no.Ledger refused other = absurd refused.1
 
 -- it is then why a transaction stops
-pub refusal_stops : (c : Client) (of : Name) (now : Past) (why : TxNo) → Refuses now of why × IsRefusal why → WhyStop c now of why
+pub refusal_stops : (c : Client) (of : Name) (now : Past) (why : TxNo) → Refuses now of why × IsCallRefusal why → WhyStop c now of why
 refusal_stops c of now (tx_no.Orphan a) h = h.0
 refusal_stops c of now tx_no.Ended h = h.0
 refusal_stops c of now tx_no.Ready h = h.0
@@ -142,7 +142,7 @@ refusal_stops c of now tx_no.Last h = absurd h.1
 refusal_stops c of now tx_no.Ledger h = absurd h.1
 
 -- so it stops early
-pub refusal_early : (c : Client) (of : Name) (why : TxNo) (how : Option How) → IsRefusal why → StopsBy of why how → StopsEarly of how
+pub refusal_early : (c : Client) (of : Name) (why : TxNo) (how : Option How) → IsCallRefusal why → StopsBy of why how → StopsEarly of how
 refusal_early c of (tx_no.Orphan a) how is h = orphan_early c of a how h
 refusal_early c of tx_no.Ended how is h = asked_early of how h
 refusal_early c of tx_no.Ready how is h = asked_early of how h

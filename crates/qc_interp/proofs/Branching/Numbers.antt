@@ -6,7 +6,7 @@ use Rattle.std.specs.List.{AllByRecursion, list_any}
 use Rattle.std.proofs.lemmas.Bool.{ne_eqb, or_right}
 use Rattle.qc_net.specs.Messages.{Net}
 use Rattle.qc_script.specs.Calls.{MeetsLink}
-use Rattle.qc_interp.specs.AtOnce.{Stands, AreOut}
+use Rattle.qc_interp.specs.AtOnce.{StandingBranch, AreOut}
 use Rattle.qc_interp.proofs.Branching.MadeBy.{without, left_out, eqb_same}
 
 abbrev pub is_in : List ℕ → ℕ → Bool
@@ -54,14 +54,14 @@ without_more n (m ∷ ns) out less there fresh is =
 pub first_out : (n : ℕ) (ns out : List ℕ) → AreFresh (n ∷ ns) out → without n (out_with (n ∷ ns) out) ≡ out_with ns out
 first_out n ns out fresh = without_more n ns (n ∷ out) out (first_in n out) fresh.1 (left_out n out fresh.0)
 
-abbrev pub number_of : Stands → ℕ
+abbrev pub number_of : StandingBranch → ℕ
 number_of b = b.view.client.number
 
 -- a branch that can be merged by a client of this link
-abbrev pub CanMerge : Option Net → Stands → Type 0
+abbrev pub CanMerge : Option Net → StandingBranch → Type 0
 CanMerge net b = (b.view.client.out ≡ []) × (b.view.client.net ≡ net) × MeetsLink b.view
 
-pub are_out : (net : Option Net) (bs : List Stands) (out : List ℕ) → AreFresh (map number_of bs) out → AllByRecursion (CanMerge net) bs → AreOut (out_with (map number_of bs) out) net bs
+pub are_out : (net : Option Net) (bs : List StandingBranch) (out : List ℕ) → AreFresh (map number_of bs) out → AllByRecursion (CanMerge net) bs → AreOut (out_with (map number_of bs) out) net bs
 are_out net [] out fresh can = tt
 are_out net (b ∷ bs) out fresh can = (
   still_in (number_of b) (map number_of bs) (number_of b ∷ out) (first_in (number_of b) out),
@@ -72,10 +72,10 @@ are_out net (b ∷ bs) out fresh can = (
 )
 
 -- what is out once they are merged
-abbrev pub merged_out : List Stands → List ℕ → List ℕ
+abbrev pub merged_out : List StandingBranch → List ℕ → List ℕ
 merged_out [] out = out
 merged_out (b ∷ bs) out = merged_out bs (without (number_of b) out)
 
-pub all_merged : (bs : List Stands) (out : List ℕ) → AreFresh (map number_of bs) out → merged_out bs (out_with (map number_of bs) out) ≡ out
+pub all_merged : (bs : List StandingBranch) (out : List ℕ) → AreFresh (map number_of bs) out → merged_out bs (out_with (map number_of bs) out) ≡ out
 all_merged [] out fresh = refl
 all_merged (b ∷ bs) out fresh = ap (merged_out bs) (first_out (number_of b) (map number_of bs) out fresh) ∙ all_merged bs out (fresh_rest (number_of b) (map number_of bs) out fresh)

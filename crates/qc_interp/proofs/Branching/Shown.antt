@@ -4,7 +4,7 @@ use Rattle.std.specs.List.{AllByRecursion}
 use Rattle.qc_event.specs.Legal.{Legal}
 use Rattle.qc_script.specs.Calls.{MeetsLink, Showed}
 use Rattle.qc_script.specs.Client.{ClientView, Made}
-use Rattle.qc_interp.specs.AtOnce.{Stands, WasShown}
+use Rattle.qc_interp.specs.AtOnce.{StandingBranch, WasShown}
 use Rattle.qc_interp.proofs.Scopes.Growth.{made_both}
 
 -- at each place
@@ -13,7 +13,7 @@ each_at f P [] i d lt h = absurd (omega (arith, lt))
 each_at f P (x ∷ xs) zero d lt h = h.0
 each_at f P (x ∷ xs) (suc i) d lt h = each_at f P xs i d (omega (arith, lt)) h.1
 
-module _ (v w x : ClientView) (b c : Stands) (client : w.client ≡ v.client) (made : Made v.client [] v.seen w.seen) (shown : ClientView) (showed : Showed w x b.view shown) (met : MeetsLink shown) (is : c ≡ record { view = shown; body = b.body; first = b.first; came = b.came }) where
+module _ (v w x : ClientView) (b c : StandingBranch) (client : w.client ≡ v.client) (made : Made v.client [] v.seen w.seen) (shown : ClientView) (showed : Showed w x b.view shown) (met : MeetsLink shown) (is : c ≡ record { view = shown; body = b.body; first = b.first; came = b.came }) where
   pub made_on : Made v.client [] v.seen x.seen
   made_on = made_both v.client v.seen w.seen x.seen made (subst (λ d. Made d [] w.seen x.seen) client showed.made)
 

@@ -91,13 +91,13 @@ any_answered {Y = Y} keep f passes (e ∷ past) h = by_keep (keep e) refl h (any
         ]
 
 -- whose answer is the first
-pub record Told {Y : Type 0} (f : Entry → Option Y) (y : Y) (past : Past) : Type 0 where
+pub record ToldInPast {Y : Type 0} (f : Entry → Option Y) (y : Y) (past : Past) : Type 0 where
   pub place : ℕ
   pub entry : Entry
   pub is : slice_get past place ≡ Some entry
   pub tells : f entry ≡ Some y
 
-pub earliest_place : {Y : Type 0} (f : Entry → Option Y) (y : Y) (past : Past) → earliest f past ≡ Some y → Told f y past
+pub earliest_place : {Y : Type 0} (f : Entry → Option Y) (y : Y) (past : Past) → earliest f past ≡ Some y → ToldInPast f y past
 earliest_place f y [] h = absurd cc
 earliest_place f y (e ∷ past) h = elim (first_is (earliest f past) (f e) y h) [
   | inl old ↦ let t = earliest_place f y past old in record { place = suc t.place; entry = t.entry; is = t.is; tells = t.tells }

@@ -24,7 +24,7 @@ use Rattle.qc_script.specs.declared.tx.TxNo.{TxNo}
 use Rattle.qc_script.specs.declared.tx.TxNo.TheVariants as tx_no
 use Rattle.qc_script.specs.Calls.{by_client, IsGrounded, NotAborted}
 use Rattle.qc_script.specs.Client.{Client, Made}
-use Rattle.qc_interp.specs.AtOnce.{Stands, branch_in, RefusedSo, IsFirst, aborts_of, TurnedSome, TurnedAll}
+use Rattle.qc_interp.specs.AtOnce.{StandingBranch, branch_in, RefusedSo, IsFirst, aborts_of, TurnedSome, TurnedAll}
 use Rattle.qc_interp.specs.Branches.{Branch}
 use Rattle.qc_event.proofs.StillTold.{some_stays}
 use Rattle.qc_event.specs.declared.short.Short.{Short}
@@ -148,25 +148,25 @@ first_refused c of n above before now tx_no.Ledger nonroot first committed h oth
 
 -- AS THEY ARE TOLD OF BRANCHES
 
-pub firsts_back : (c : Client) (bs : List Stands) (above : List (Option Name)) → aborts_of c (map (λ (b : Stands). b.first) bs) above ≡ turns_back c (map branch_in bs) above
+pub firsts_back : (c : Client) (bs : List StandingBranch) (above : List (Option Name)) → aborts_of c (map (λ (b : StandingBranch). b.first) bs) above ≡ turns_back c (map branch_in bs) above
 firsts_back c [] above = refl
 firsts_back c (b ∷ bs) [] = refl
 firsts_back c (b ∷ bs) (Some a ∷ above) = ap (λ l. l ++ by_client c (event.End b.first (Abort (cause.Orphan a))) ∷ []) (firsts_back c bs above)
 firsts_back c (b ∷ bs) (None ∷ above) = firsts_back c bs above
 
-pub firsts_ended : (past : Past) (bs : List Stands) → AllByRecursion (λ n. is_some (end past n) ≡ true) (map (λ (b : Stands). b.first) bs) → AllByRecursion (λ (b : Branch). is_some (end past b.first) ≡ true) (map branch_in bs)
+pub firsts_ended : (past : Past) (bs : List StandingBranch) → AllByRecursion (λ n. is_some (end past n) ≡ true) (map (λ (b : StandingBranch). b.first) bs) → AllByRecursion (λ (b : Branch). is_some (end past b.first) ≡ true) (map branch_in bs)
 firsts_ended past [] all = tt
 firsts_ended past (b ∷ bs) all = (all.0, firsts_ended past bs all.1)
 
 -- what some aborts are, and all of them
-abbrev pub Back : Client → List Stands → Past → Past → Type 0
+abbrev pub Back : Client → List StandingBranch → Past → Past → Type 0
 Back c bs before now = (above : List (Option Name)) × Made c (turns_back c (map branch_in bs) above) before now
 
-pub back_some : (c : Client) (bs : List Stands) (before now : Past) → TurnedSome c (map (λ (b : Stands). b.first) bs) before now → Back c bs before now
+pub back_some : (c : Client) (bs : List StandingBranch) (before now : Past) → TurnedSome c (map (λ (b : StandingBranch). b.first) bs) before now → Back c bs before now
 back_some c bs before now turned = (turned.0, subst (λ es. Made c es before now) (firsts_back c bs turned.0) turned.1)
 
-pub back_all : (c : Client) (of : Name) (bs : List Stands) (before now : Past) (why : TxNo) → Legal c.setting before → 0 < length of → RefusedSo before of why → AllByRecursion (IsFirst of before) (map (λ (b : Stands). b.first) bs)
-    → TurnedAll c why (map (λ (b : Stands). b.first) bs) before now → Back c bs before now × AllByRecursion (λ (b : Branch). is_some (end now b.first) ≡ true) (map branch_in bs)
+pub back_all : (c : Client) (of : Name) (bs : List StandingBranch) (before now : Past) (why : TxNo) → Legal c.setting before → 0 < length of → RefusedSo before of why → AllByRecursion (IsFirst of before) (map (λ (b : StandingBranch). b.first) bs)
+    → TurnedAll c why (map (λ (b : StandingBranch). b.first) bs) before now → Back c bs before now × AllByRecursion (λ (b : Branch). is_some (end now b.first) ≡ true) (map branch_in bs)
 back_all c of bs before now tx_no.Ready legal nonroot refused firsts turned =
     ready_all now turned
   where
@@ -176,7 +176,7 @@ back_all c of bs before now tx_no.Ready legal nonroot refused firsts turned =
 
     ready_all : (x : Past) → x ≡ before → Back c bs before x × AllByRecursion (λ (b : Branch). is_some (end x b.first) ≡ true) (map branch_in bs)
     ready_all x is = subst (λ y. Back c bs before y × AllByRecursion (λ (b : Branch). is_some (end y b.first) ≡ true) (map branch_in bs)) (sym is)
-        (([], subst (λ es. Made c es before before) (sym (none_back c (map branch_in bs))) (made_itself c before legal)), firsts_ended before bs (each (map (λ (b : Stands). b.first) bs) firsts))
+        (([], subst (λ es. Made c es before before) (sym (none_back c (map branch_in bs))) (made_itself c before legal)), firsts_ended before bs (each (map (λ (b : StandingBranch). b.first) bs) firsts))
 back_all c of bs before now (tx_no.Orphan a) legal nonroot refused firsts turned = (back_some c bs before now turned.0, firsts_ended now bs turned.1)
 back_all c of bs before now tx_no.Ended legal nonroot refused firsts turned = (back_some c bs before now turned.0, firsts_ended now bs turned.1)
 back_all c of bs before now (tx_no.Short s) legal nonroot refused firsts turned = absurd refused.1

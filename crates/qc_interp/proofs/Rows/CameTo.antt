@@ -15,7 +15,7 @@ use Rattle.qc_script.specs.Client.{Client, mine, Made, AreOurs}
 use Rattle.qc_script.specs.Plan.{Numbered}
 use Rattle.qc_interp.specs.declared.body.branch.BranchCame.{BranchCame}
 use Rattle.qc_interp.specs.declared.body.branch.BranchCame.TheVariants as came
-use Rattle.qc_interp.specs.AtOnce.{Stands, branch_in, IsRefusal, LastCommitted, TriesEnd, CameSo, came_worse, came_behind, told_want, row_came}
+use Rattle.qc_interp.specs.AtOnce.{StandingBranch, branch_in, IsCallRefusal, LastCommitted, TriesEnd, CameSo, came_worse, came_behind, told_want, row_came}
 use Rattle.qc_event.specs.declared.event.Entry.{Entry}
 use Rattle.qc_event.specs.declared.event.Kind.TheVariants as kind
 use Rattle.qc_event.specs.Wants.{IsWant}
@@ -72,8 +72,8 @@ module _ (c : Client) (body : Numbered) (before now : Past) (m : Made c [] befor
     λ ours. ap (λ l. was_tried l false body.tries (map Deed.child (children l c.root))) own ∙ h.2 (ours_then ours),
   )
     where
-      not_open : (why : TxNo) → IsRefusal why → (child : Name) → why ≡ tx_no.ChildrenOpen child → ⊥
-      not_open why is child same = subst IsRefusal same is
+      not_open : (why : TxNo) → IsCallRefusal why → (child : Name) → why ≡ tx_no.ChildrenOpen child → ⊥
+      not_open why is child same = subst IsCallRefusal same is
 
   pub came_later : length now ≤ limit → (came : Option (Result BranchCame Short)) → CameSo c body before came → CameSo c body now came
   came_later bound None h = absurd h
@@ -98,7 +98,7 @@ ended_whole c body now (came.Refused why) h = h.0
 
 -- TOGETHER
 
-abbrev pub CameAt : Past → Stands → Type 0
+abbrev pub CameAt : Past → StandingBranch → Type 0
 CameAt now b = CameSo b.view.client b.body now b.came
 
 abbrev pub ok : BranchCame → Result BranchCame Short
@@ -111,7 +111,7 @@ not_both : (why : Short) (x : BranchCame) → err why ≡ ok x → ⊥
 not_both why x e = cc
 
 -- behind one that was cut off some want is told
-pub not_well : (why : Short) (x : BranchCame) (bs : List Stands) → row_came (Err why) bs ≡ Ok x → ⊥
+pub not_well : (why : Short) (x : BranchCame) (bs : List StandingBranch) → row_came (Err why) bs ≡ Ok x → ⊥
 not_well why x [] is = not_both why x is
 not_well why x (b ∷ bs) is = by_came b.came (λ w h. not_well w x bs h) is
   where
@@ -124,7 +124,7 @@ abbrev pub Whole : Past → Branch → Type 0
 Whole now b = RanTries Reach.to_the_end (Unit {0}) b.client b.body now
 
 -- Where none was cut off, all ran to the end.
-pub all_whole : (now : Past) (bs : List Stands) (so_far x : BranchCame) → AllByRecursion (CameAt now) bs → row_came (Ok so_far) bs ≡ Ok x → AllByRecursion (Whole now) (map branch_in bs)
+pub all_whole : (now : Past) (bs : List StandingBranch) (so_far x : BranchCame) → AllByRecursion (CameAt now) bs → row_came (Ok so_far) bs ≡ Ok x → AllByRecursion (Whole now) (map branch_in bs)
 all_whole now [] so_far x all is = tt
 all_whole now (b ∷ bs) so_far x all is = by_came b.came all.0 (λ y h. all_whole now bs y x all.1 h) is
   where
@@ -135,7 +135,7 @@ all_whole now (b ∷ bs) so_far x all is = by_came b.came all.0 (λ y h. all_who
     by_came (Some (Ok y)) h more is = (ended_whole b.view.client b.body now y h, more (came_worse so_far b.body.must y) is)
 
 -- What was wanting is told only where one told it.
-pub wants : (now : Past) (bs : List Stands) (so_far : Result BranchCame Short) → AllByRecursion (CameAt now) bs → IfErr so_far (IsWant now) → IfErr (row_came so_far bs) (IsWant now)
+pub wants : (now : Past) (bs : List StandingBranch) (so_far : Result BranchCame Short) → AllByRecursion (CameAt now) bs → IfErr so_far (IsWant now) → IfErr (row_came so_far bs) (IsWant now)
 wants now [] so_far all want = want
 wants now (b ∷ bs) so_far all want = wants now bs (came_behind so_far b.body.must b.came) all.1 (by_came so_far b.came all.0 want)
   where
@@ -147,14 +147,14 @@ wants now (b ∷ bs) so_far all want = wants now bs (came_behind so_far b.body.m
     by_came (Err short.Memory) (Some (Err other)) h want = tt
     by_came (Err short.Room) (Some (Err other)) h want = h.1
 
-pub all_cut : (now : Past) (bs : List Stands) → AllByRecursion (CameAt now) bs → AllByRecursion (λ (b : Branch). RanTries Reach.cut_off (Unit {0}) b.client b.body now) (map branch_in bs)
+pub all_cut : (now : Past) (bs : List StandingBranch) → AllByRecursion (CameAt now) bs → AllByRecursion (λ (b : Branch). RanTries Reach.cut_off (Unit {0}) b.client b.body now) (map branch_in bs)
 all_cut now [] all = tt
 all_cut now (b ∷ bs) all = (came_cut b.view.client b.body now b.came all.0, all_cut now bs all.1)
 
 -- HOW THEY CAME OUT
 
 -- what came first stays
-pub refused_stays : (w : TxNo) (bs : List Stands) (x : BranchCame) → row_came (Ok (came.Refused w)) bs ≡ Ok x → x ≡ came.Refused w
+pub refused_stays : (w : TxNo) (bs : List StandingBranch) (x : BranchCame) → row_came (Ok (came.Refused w)) bs ≡ Ok x → x ≡ came.Refused w
 refused_stays w [] x is = cc
 refused_stays w (b ∷ bs) x is = by_came b.came (refused_stays w bs x) is
   where
@@ -201,7 +201,7 @@ stops s x w p t q f must not_so is = subst (λ b. CameOut s x (b && t) (option_o
     by_cases (came.Failed one) must is = subst (λ y. CameOut (came.Failed one) y false (option_or q f)) (sym (is w refl)) refl
     by_cases (came.Refused v) must is = is v refl
 
-pub how_out : (now : Past) (bs : List Stands) (s x : BranchCame) → AllByRecursion (CameAt now) bs → AllByRecursion (λ (b : Branch). AreTriesOurs b.client now) (map branch_in bs) → row_came (Ok s) bs ≡ Ok x → CameOut s x (all_tried now (map branch_in bs)) (one_failed now (map branch_in bs))
+pub how_out : (now : Past) (bs : List StandingBranch) (s x : BranchCame) → AllByRecursion (CameAt now) bs → AllByRecursion (λ (b : Branch). AreTriesOurs b.client now) (map branch_in bs) → row_came (Ok s) bs ≡ Ok x → CameOut s x (all_tried now (map branch_in bs)) (one_failed now (map branch_in bs))
 how_out now [] s x all ours is = by_same s x (same_ok is)
   where
     same_ok : ok s ≡ ok x → s ≡ x

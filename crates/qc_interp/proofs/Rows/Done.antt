@@ -10,7 +10,7 @@ use Rattle.qc_script.specs.Client.{Client, ClientView, Made, HasJoined, AreOurs}
 use Rattle.qc_script.specs.Plan.{Plan, Numbered}
 use Rattle.qc_interp.specs.declared.body.branch.BranchCame.{BranchCame}
 use Rattle.qc_interp.specs.declared.body.branch.BranchCame.TheVariants as came
-use Rattle.qc_interp.specs.AtOnce.{Stands, branch_in, BeganInTurn, InPairs, WasShown, HasRun, MergedInTurn, TriesEnd, IsRefusal, CameSo, row_came, came_worse, came_behind, KnowsBehind, WentBehind, RefusedSo}
+use Rattle.qc_interp.specs.AtOnce.{StandingBranch, branch_in, BeganInTurn, InPairs, WasShown, HasRun, MergedInTurn, TriesEnd, IsCallRefusal, CameSo, row_came, came_worse, came_behind, KnowsBehind, WentBehind, RefusedSo}
 use Rattle.qc_interp.specs.Branches.{Branch, with_all, RanRow, AreTriesOurs, row_step}
 use Rattle.qc_interp.specs.Deeds.{Deed}
 use Rattle.qc_interp.specs.Reach.{Reach}
@@ -32,14 +32,14 @@ use Rattle.qc_interp.proofs.Rows.Whole.{StaysOf, all_stay, client_is, no_more, t
 use Rattle.qc_event.proofs.Lists.{get_last}
 use Rattle.qc_event.specs.Wants.{IsWant}
 
-pub all_become : (olds news : List Stands) → InPairs HasRun olds news → InPairs Became olds news
+pub all_become : (olds news : List StandingBranch) → InPairs HasRun olds news → InPairs Became olds news
 all_become [] [] h = tt
 all_become [] (b ∷ news) h = absurd h
 all_become (a ∷ olds) [] h = absurd h
 all_become (a ∷ olds) (b ∷ news) h = (has_become a b h.0, all_become olds news h.1)
 
 -- what each came to stands behind its merge
-came_since : (now : Past) (olds news : List Stands) → length now ≤ limit → InPairs HasRun olds news → AllByRecursion (MadeNoMore now) news → AllByRecursion (CameAt now) news
+came_since : (now : Past) (olds news : List StandingBranch) → length now ≤ limit → InPairs HasRun olds news → AllByRecursion (MadeNoMore now) news → AllByRecursion (CameAt now) news
 came_since now [] [] bound h none = tt
 came_since now [] (b ∷ news) bound h none = absurd h
 came_since now (a ∷ olds) [] bound h none = absurd h
@@ -50,7 +50,7 @@ came_since now (a ∷ olds) (b ∷ news) bound h none = (came_later b.view.clien
 same_ok : (s x : BranchCame) → ok s ≡ ok x → s ≡ x
 same_ok s x e = cc
 
-failed_stays : (k l : Name) (bs : List Stands) → row_came (Ok (came.Failed k)) bs ≡ Ok (came.Failed l) → l ≡ k
+failed_stays : (k l : Name) (bs : List StandingBranch) → row_came (Ok (came.Failed k)) bs ≡ Ok (came.Failed l) → l ≡ k
 failed_stays k l [] is = same_name (same_ok (came.Failed k) (came.Failed l) is)
   where
     same_name : came.Failed k ≡ came.Failed l → l ≡ k
@@ -74,7 +74,7 @@ pub record FailedAt (now : Past) (bs : List Branch) (last : Name) : Type 0 where
   pub at : slice_get bs place ≡ Some branch
   pub ends : TriesEnd branch.client branch.body now (came.Failed last)
 
-pub failed_at : (now : Past) (bs : List Stands) (last : Name) → AllByRecursion (CameAt now) bs → row_came (Ok came.Through) bs ≡ Ok (came.Failed last) → FailedAt now (map branch_in bs) last
+pub failed_at : (now : Past) (bs : List StandingBranch) (last : Name) → AllByRecursion (CameAt now) bs → row_came (Ok came.Through) bs ≡ Ok (came.Failed last) → FailedAt now (map branch_in bs) last
 failed_at now [] last all is = absurd (other (same_ok came.Through (came.Failed last) is))
   where
     other : came.Through ≡ came.Failed last → ⊥
@@ -101,7 +101,7 @@ failed_at now (b ∷ bs) last all is = by_came b.came b.body.must all.0 (λ h. b
         other : (w : TxNo) → came.Failed last ≡ came.Refused w → ⊥
         other w e = cc
 
-pub refused_at : (c : Client) (of : Name) (now : Past) (bs : List Stands) (s : BranchCame) (w : TxNo) → AllByRecursion (CameAt now) bs → AllByRecursion (StaysOf c of) bs → (s ≡ came.Refused w → RefusedSo now of w) → row_came (Ok s) bs ≡ Ok (came.Refused w) → RefusedSo now of w
+pub refused_at : (c : Client) (of : Name) (now : Past) (bs : List StandingBranch) (s : BranchCame) (w : TxNo) → AllByRecursion (CameAt now) bs → AllByRecursion (StaysOf c of) bs → (s ≡ came.Refused w → RefusedSo now of w) → row_came (Ok s) bs ≡ Ok (came.Refused w) → RefusedSo now of w
 refused_at c of now [] s w all stay was is = was (same_ok s (came.Refused w) is)
 refused_at c of now (b ∷ bs) s w all stay was is = by_came b.came all.0 (λ y was_y h. refused_at c of now bs y w all.1 stay.1 was_y h) is
   where
@@ -143,11 +143,11 @@ failed_of (came.Failed last) = Some last
 failed_of x = None
 
 -- The bodies of a step were all begun; their branches were shown the starts of all, ran and were merged.
-pub record RowDone (of : Name) (v w3 : ClientView) (bs2 : List Stands) (bodies : List Numbered) : Type 0 where
+pub record RowDone (of : Name) (v w3 : ClientView) (bs2 : List StandingBranch) (bodies : List Numbered) : Type 0 where
   pub w1 : ClientView
   pub w2 : ClientView
-  pub bs0 : List Stands
-  pub bs1 : List Stands
+  pub bs0 : List StandingBranch
+  pub bs1 : List StandingBranch
   pub runs : Runs v.client of v.seen
   pub began : BeganInTurn v of bs0 w1
   pub shown : InPairs (WasShown w1.seen) bs0 bs1
@@ -159,7 +159,7 @@ pub record RowDone (of : Name) (v w3 : ClientView) (bs2 : List Stands) (bodies :
   pub own : HaveOwnBodies (map branch_in bs2)
   pub are : map (λ (b : Branch). b.body) (map branch_in bs2) ≡ bodies
 
-module _ {of : Name} {v w3 : ClientView} {bs2 : List Stands} {bodies : List Numbered} (r : RowDone of v w3 bs2 bodies) where
+module _ {of : Name} {v w3 : ClientView} {bs2 : List StandingBranch} {bodies : List Numbered} (r : RowDone of v w3 bs2 bodies) where
   open r use {w1, w2, bs0, bs1, runs, began, shown, same, made, ran, merged, some, own, are}
 
   abbrev c : Client
@@ -237,13 +237,13 @@ module _ {of : Name} {v w3 : ClientView} {bs2 : List Stands} {bodies : List Numb
     pub done_acted : (y : Past) (r : Option Bool) → WentBehind w3.client of w3.seen y x r → HasActed w3.client of v.seen y (row_step bodies) r
     done_acted y r went = acted_by w3.client of v.seen y (row_step bodies) r (by_case x r done_out done_knows went (refusal x came_to))
       where
-        refusal : (z : BranchCame) → row_came (Ok came.Through) bs2 ≡ Ok z → (w : TxNo) → z ≡ came.Refused w → IsRefusal w
+        refusal : (z : BranchCame) → row_came (Ok came.Through) bs2 ≡ Ok z → (w : TxNo) → z ≡ came.Refused w → IsCallRefusal w
         refusal z h w e = (refused_at c of w3.seen bs2 came.Through w came_all (all_stay c of v w1 w1.seen bs0 bs1 bs2 (c.out, refl) began shown became) (λ e. absurd (other e)) (h ∙ ap ok e)).1
           where
             other : came.Through ≡ came.Refused w → ⊥
             other e = cc
 
-        by_case : (z : BranchCame) (r : Option Bool) → RowOut w3.client of v.seen w3.seen bodies (out_of z) (failed_of z) → KnowsBehind w3.client of w3.seen z → WentBehind w3.client of w3.seen y z r → ((w : TxNo) → z ≡ came.Refused w → IsRefusal w) → Stepped w3.client of v.seen y (row_step bodies) r
+        by_case : (z : BranchCame) (r : Option Bool) → RowOut w3.client of v.seen w3.seen bodies (out_of z) (failed_of z) → KnowsBehind w3.client of w3.seen z → WentBehind w3.client of w3.seen y z r → ((w : TxNo) → z ≡ came.Refused w → IsCallRefusal w) → Stepped w3.client of v.seen y (row_step bodies) r
         by_case came.Through None o knows went is_refusal = subst (λ h. Stepped w3.client of v.seen h (row_step bodies) None) (sym went) (row_through w3.client of v.seen w3.seen bodies o)
         by_case came.Through (Some again) o knows went is_refusal = absurd went
         by_case (came.Failed last) None o knows went is_refusal = absurd went

@@ -13,7 +13,7 @@ use Rattle.qc_script.specs.Calls.{by_client}
 use Rattle.qc_script.specs.Client.{Client, ClientView, mine, branch_of}
 use Rattle.qc_script.specs.Plan.{Plan, Numbered, PlanFits, row_of, row_numbers}
 use Rattle.qc_script.proofs.Rows.{row_length-row_of}
-use Rattle.qc_interp.specs.AtOnce.{Stands, HasBegun, BeganInTurn, InPairs, WasShown, MayRun}
+use Rattle.qc_interp.specs.AtOnce.{StandingBranch, HasBegun, BeganInTurn, InPairs, WasShown, MayRun}
 use Rattle.qc_interp.specs.Branches.{row_step}
 use Rattle.qc_interp.specs.Running.{Runs}
 use Rattle.qc_interp.proofs.Branching.Plans.{BodyFits, row_fits}
@@ -49,7 +49,7 @@ module _ (setting : Setting) (depth : ℕ) (bodies : List Numbered) (rest : Plan
 -- EACH MAY RUN
 
 module _ (c : Client) (of : Name) (nonroot : 0 < length of) (seen : Past) (parent : Started seen of (λ e. IsUser e.kind)) where
-  one_may : (v u : ClientView) (b one : Stands) → WithOut c v.client → HasBegun v u of b → WasShown seen b one → BodyFits c.setting (length of) b.body → MayRun of one
+  one_may : (v u : ClientView) (b one : StandingBranch) → WithOut c v.client → HasBegun v u of b → WasShown seen b one → BodyFits c.setting (length of) b.body → MayRun of one
   one_may v u b one same begun shown fits = record {
     root = ap (λ (x : Client). x.root) is;
     parent = subst (λ h. Started h of (λ e. IsUser e.kind)) (sym shown.since.grown) (started_still shown.since.newer seen of _ parent);
@@ -78,7 +78,7 @@ module _ (c : Client) (of : Name) (nonroot : 0 < length of) (seen : Past) (paren
           ∙ ap (λ l. by_client b.view.client (event.Start b.first (kind.User b.view.client.session b.body.number)) ∷ l)
           (none_mine b.view.client v.seen (subst (λ x. NoneOf x v.seen) (sym is_branch) (none_under b.view.client.number v.seen begun.none)))
 
-  pub each_may : (v w : ClientView) (bs ones : List Stands) → WithOut c v.client → BeganInTurn v of bs w → InPairs (WasShown seen) bs ones → AllByRecursion (BodyFits c.setting (length of)) (map (λ (b : Stands). b.body) bs) → AllByRecursion (MayRun of) ones
+  pub each_may : (v w : ClientView) (bs ones : List StandingBranch) → WithOut c v.client → BeganInTurn v of bs w → InPairs (WasShown seen) bs ones → AllByRecursion (BodyFits c.setting (length of)) (map (λ (b : StandingBranch). b.body) bs) → AllByRecursion (MayRun of) ones
   each_may v w [] [] same began shown fits = tt
   each_may v w [] (o ∷ ones) same began shown fits = absurd shown
   each_may v w (b ∷ bs) [] same began shown fits = absurd shown
@@ -86,7 +86,7 @@ module _ (c : Client) (of : Name) (nonroot : 0 < length of) (seen : Past) (paren
       (one_may v u b o same begun shown.0 fits.0, each_may u w bs ones (more_out c of v u b same begun) rest shown.1 fits.1)
 
 -- where the starts of all were shown, each may run
-pub may_run : (v w : ClientView) (of : Name) (bs ones : List Stands) → Runs v.client of v.seen → BeganInTurn v of bs w → InPairs (WasShown w.seen) bs ones → AllByRecursion (BodyFits v.client.setting (length of)) (map (λ (b : Stands). b.body) bs) → AllByRecursion (MayRun of) ones
+pub may_run : (v w : ClientView) (of : Name) (bs ones : List StandingBranch) → Runs v.client of v.seen → BeganInTurn v of bs w → InPairs (WasShown w.seen) bs ones → AllByRecursion (BodyFits v.client.setting (length of)) (map (λ (b : StandingBranch). b.body) bs) → AllByRecursion (MayRun of) ones
 may_run v w of bs ones runs began shown fits =
     let m = began_made v.client of v w bs (v.client.out, refl) runs.legal began in
     each_may v.client of runs.nonroot w.seen (subst (λ h. Started h of (λ e. IsUser e.kind)) (sym m.grown) (started_still m.newer v.seen of _ (user_is v.client.session v.seen of runs.user))) v w bs ones (v.client.out, refl) began shown fits

@@ -5,7 +5,7 @@ use Rattle.qc_event.specs.History.{Past, Name, end}
 use Rattle.qc_script.specs.declared.tx.TxNo.{TxNo}
 use Rattle.qc_script.specs.Client.{Client, mine, Made}
 use Rattle.qc_script.specs.Plan.{Plan, Numbered}
-use Rattle.qc_interp.specs.AtOnce.{IsRefusal}
+use Rattle.qc_interp.specs.AtOnce.{IsCallRefusal}
 use Rattle.qc_interp.specs.Branches.{row_step, FrontRow}
 use Rattle.qc_interp.specs.Deeds.{Deed, deeds, OfChild}
 use Rattle.qc_interp.specs.Reach.{Reach}
@@ -46,7 +46,7 @@ module _ (c : Client) (of : Name) (before now : Past) (bodies : List Numbered) w
     }
 
     -- it stopped by a refusal
-    pub row_stops : (why : TxNo) (again : Bool) (rest : Plan) → RowOut c of before now bodies false None → IsRefusal why → Stopped c of why now x again → Ended c of before x (row_step bodies rest) (finish.Stopped again)
+    pub row_stops : (why : TxNo) (again : Bool) (rest : Plan) → RowOut c of before now bodies false None → IsCallRefusal why → Stopped c of why now x again → Ended c of before x (row_step bodies rest) (finish.Stopped again)
     row_stops why again rest r is stopped = record {
       leaves = leaves_trans c of before now x r.leaves stopped.leaves;
       tried = stopped.tried;

@@ -10,7 +10,7 @@ use Rattle.qc_event.specs.History.{Past, Name, limit}
 use Rattle.qc_event.specs.Legal.{Legal}
 use Rattle.qc_script.specs.Calls.{by_client, Merged}
 use Rattle.qc_script.specs.Client.{Client, ClientView, is_own, branch_of, Made, IsLater, HasJoined}
-use Rattle.qc_interp.specs.AtOnce.{Stands, branch_in, HasBegun, BeganInTurn, InPairs, WasShown, HasRun, MergedInTurn}
+use Rattle.qc_interp.specs.AtOnce.{StandingBranch, branch_in, HasBegun, BeganInTurn, InPairs, WasShown, HasRun, MergedInTurn}
 use Rattle.qc_interp.specs.Branches.{Branch, seats_of, start_of}
 use Rattle.qc_interp.proofs.Branching.Numbers.{number_of, out_with, AreFresh, merged_out}
 use Rattle.qc_interp.proofs.Scopes.Growth.{made_itself, made_both}
@@ -19,12 +19,12 @@ use Rattle.qc_interp.proofs.Branching.MadeBy.{NoneOf, without, none_under, made_
 use Rattle.qc_interp.proofs.Rows.Starts.{StartedOne, StartedInTurn}
 
 -- a branch is the same later, but for more kin
-pub record Became (old new : Stands) : Type 0 where
+pub record Became (old new : StandingBranch) : Type 0 where
   pub joined : HasJoined old.view.client old.view.seen new.view.client
   pub body : new.body ≡ old.body
   pub first : new.first ≡ old.first
 
-pub has_become : (old new : Stands) → HasRun old new → Became old new
+pub has_become : (old new : StandingBranch) → HasRun old new → Became old new
 has_become old new ran = record { joined = ran.joined; body = ran.body; first = ran.first }
 
 none_joined : (c d : Client) (past : Past) → HasJoined c past d → NoneOf c past → NoneOf d past
@@ -41,30 +41,30 @@ WithOut c d = (out : List ℕ) × (d ≡ record c { out = out })
 pub still_same : (c d : Client) (es a b : Past) → WithOut c d → Made d es a b → Made c es a b
 still_same c d es a b w m = let n = subst (λ x. Made x es a b) w.1 m in record { newer = n.newer; grown = n.grown; made = n.made; legal = n.legal }
 
-pub more_out : (c : Client) (of : Name) (v u : ClientView) (b : Stands) → WithOut c v.client → HasBegun v u of b → WithOut c u.client
+pub more_out : (c : Client) (of : Name) (v u : ClientView) (b : StandingBranch) → WithOut c v.client → HasBegun v u of b → WithOut c u.client
 more_out c of v u b w begun = (number_of b ∷ w.0, begun.left ∙ ap (λ (x : Client). record x { out = number_of b ∷ x.out }) w.1)
 
 -- AS THEY BEGAN
 
 module _ (c : Client) (of : Name) where
-  pub began_made : (v w : ClientView) (bs : List Stands) → WithOut c v.client → Legal c.setting v.seen → BeganInTurn v of bs w → Made c [] v.seen w.seen
+  pub began_made : (v w : ClientView) (bs : List StandingBranch) → WithOut c v.client → Legal c.setting v.seen → BeganInTurn v of bs w → Made c [] v.seen w.seen
   began_made v w [] same legal h = subst (λ x. Made c [] v.seen x) (sym (ap (λ (x : ClientView). x.seen) h)) (made_itself c v.seen legal)
   began_made v w (b ∷ bs) same legal h =
       let own = still_same c v.client [] v.seen h.0.seen same h.1.made in
       made_both c v.seen h.0.seen w.seen own (began_made h.0 w bs (more_out c of v h.0 b same h.1) own.legal h.2)
 
-  pub began_out : (v w : ClientView) (bs : List Stands) (out : List ℕ) → v.client ≡ record c { out = out } → BeganInTurn v of bs w → w.client ≡ record c { out = out_with (map number_of bs) out }
+  pub began_out : (v w : ClientView) (bs : List StandingBranch) (out : List ℕ) → v.client ≡ record c { out = out } → BeganInTurn v of bs w → w.client ≡ record c { out = out_with (map number_of bs) out }
   began_out v w [] out same h = ap (λ (x : ClientView). x.client) h ∙ same
   began_out v w (b ∷ bs) out same h = began_out h.0 w bs (number_of b ∷ out) (h.1.left ∙ ap (λ (x : Client). record x { out = number_of b ∷ x.out }) same) h.2
 
-  pub began_fresh : (v w : ClientView) (bs : List Stands) (out : List ℕ) → v.client ≡ record c { out = out } → BeganInTurn v of bs w → AreFresh (map number_of bs) out
+  pub began_fresh : (v w : ClientView) (bs : List StandingBranch) (out : List ℕ) → v.client ≡ record c { out = out } → BeganInTurn v of bs w → AreFresh (map number_of bs) out
   began_fresh v w [] out same h = tt
   began_fresh v w (b ∷ bs) out same h = (
     subst (λ (x : Client). Rattle.std.specs.List.list_any (λ k. k == number_of b) x.out ≡ false) same h.1.not_out,
     began_fresh h.0 w bs (number_of b ∷ out) (h.1.left ∙ ap (λ (x : Client). record x { out = number_of b ∷ x.out }) same) h.2,
   )
 
-  module _ (v u w : ClientView) (b0 b1 b2 : Stands) (same : WithOut c v.client) (begun : HasBegun v u of b0) (later : Made c [] u.seen w.seen) (shown : WasShown w.seen b0 b1) (became : Became b1 b2) where
+  module _ (v u w : ClientView) (b0 b1 b2 : StandingBranch) (same : WithOut c v.client) (begun : HasBegun v u of b0) (later : Made c [] u.seen w.seen) (shown : WasShown w.seen b0 b1) (became : Became b1 b2) where
     b : Branch
     b = branch_in b2
 
@@ -109,7 +109,7 @@ module _ (c : Client) (of : Name) where
         own_is : Made c [] v.seen u.seen
         own_is = still_same c v.client [] v.seen u.seen same begun.made
 
-  pub all_started : (v w : ClientView) (bs0 bs1 bs2 : List Stands) → WithOut c v.client → Legal c.setting v.seen → BeganInTurn v of bs0 w → InPairs (WasShown w.seen) bs0 bs1 → InPairs Became bs1 bs2 → StartedInTurn c of v.seen (map branch_in bs2) w.seen
+  pub all_started : (v w : ClientView) (bs0 bs1 bs2 : List StandingBranch) → WithOut c v.client → Legal c.setting v.seen → BeganInTurn v of bs0 w → InPairs (WasShown w.seen) bs0 bs1 → InPairs Became bs1 bs2 → StartedInTurn c of v.seen (map branch_in bs2) w.seen
   all_started v w [] [] [] same legal h shown became = ap (λ (x : ClientView). x.seen) h
   all_started v w [] [] (b ∷ bs) same legal h shown became = absurd became
   all_started v w [] (b ∷ bs) bs2 same legal h shown became = absurd shown
@@ -128,7 +128,7 @@ own_first c ks seat own = owned_more c ks seat ∙ or_left (is_own c seat) (list
 own_second : (c b : Client) (seat : ℕ) → is_own b seat ≡ true → is_own (record c { kin = c.kin ++ b.number ∷ b.kin }) seat ≡ true
 own_second c b seat own = owned_more c (b.number ∷ b.kin) seat ∙ or_right (is_own c seat) (is_own b seat) own
 
-module _ (w x : ClientView) (b : Stands) (m : Merged w b.view x) where
+module _ (w x : ClientView) (b : StandingBranch) (m : Merged w b.view x) where
   own_stays : (seat : ℕ) → is_own w.client seat ≡ true → is_own x.client seat ≡ true
   own_stays seat own = ap (λ c. is_own c seat) m.client ∙ own_first w.client (b.view.client.number ∷ b.view.client.kin) seat own
 
@@ -138,14 +138,14 @@ module _ (w x : ClientView) (b : Stands) (m : Merged w b.view x) where
   setting_stays : x.client.setting ≡ w.client.setting
   setting_stays = ap (λ (c : Client). c.setting) m.client
 
-pub merged_made : (w x : ClientView) (bs : List Stands) → Legal w.client.setting w.seen → MergedInTurn w bs x → Made w.client [] w.seen x.seen
+pub merged_made : (w x : ClientView) (bs : List StandingBranch) → Legal w.client.setting w.seen → MergedInTurn w bs x → Made w.client [] w.seen x.seen
 merged_made w x [] legal h = subst (λ y. Made w.client [] w.seen y) (sym (ap (λ (y : ClientView). y.seen) h)) (made_itself w.client w.seen legal)
 merged_made w x (b ∷ bs) legal h =
     let m = h.1 in
     made_both w.client w.seen h.0.seen x.seen m.made
     (made_fewer w.client h.0.client h.0.seen x.seen (own_stays w h.0 b m) (setting_stays w h.0 b m) (merged_made h.0 x bs (subst (λ s. Legal s h.0.seen) (sym (setting_stays w h.0 b m)) m.made.legal) h.2))
 
-pub merged_client : (w x : ClientView) (bs : List Stands) → MergedInTurn w bs x → x.client ≡ record w.client { kin = w.client.kin ++ seats_of (map branch_in bs); out = merged_out bs w.client.out }
+pub merged_client : (w x : ClientView) (bs : List StandingBranch) → MergedInTurn w bs x → x.client ≡ record w.client { kin = w.client.kin ++ seats_of (map branch_in bs); out = merged_out bs w.client.out }
 merged_client w x [] h = ap (λ (y : ClientView). y.client) h ∙ ap (λ kin. record w.client { kin = kin }) (sym (append-nil w.client.kin))
 merged_client w x (b ∷ bs) h =
     merged_client h.0 x bs h.2
@@ -153,10 +153,10 @@ merged_client w x (b ∷ bs) h =
     ∙ ap (λ kin. record w.client { kin = kin; out = merged_out bs (without (number_of b) w.client.out) }) (append_assoc w.client.kin (b.view.client.number ∷ b.view.client.kin) (seats_of (map branch_in bs)))
 
 -- each branch made nothing since it was merged, or stopped
-abbrev pub MadeNoMore : Past → Stands → Type 0
+abbrev pub MadeNoMore : Past → StandingBranch → Type 0
 MadeNoMore now b = Made b.view.client [] b.view.seen now
 
-pub merged_each : (w x : ClientView) (bs : List Stands) → AllByRecursion (λ b. b.view.client.setting ≡ w.client.setting) bs → MergedInTurn w bs x → AllByRecursion (MadeNoMore x.seen) bs
+pub merged_each : (w x : ClientView) (bs : List StandingBranch) → AllByRecursion (λ b. b.view.client.setting ≡ w.client.setting) bs → MergedInTurn w bs x → AllByRecursion (MadeNoMore x.seen) bs
 merged_each w x [] same h = tt
 merged_each w x (b ∷ bs) same h =
     let m = h.1 in
@@ -166,7 +166,7 @@ merged_each w x (b ∷ bs) same h =
       merged_each h.0 x bs (others bs same.1 setting) h.2,
     )
   where
-    others : (bs : List Stands) → AllByRecursion (λ (y : Stands). y.view.client.setting ≡ w.client.setting) bs → h.0.client.setting ≡ w.client.setting → AllByRecursion (λ (y : Stands). y.view.client.setting ≡ h.0.client.setting) bs
+    others : (bs : List StandingBranch) → AllByRecursion (λ (y : StandingBranch). y.view.client.setting ≡ w.client.setting) bs → h.0.client.setting ≡ w.client.setting → AllByRecursion (λ (y : StandingBranch). y.view.client.setting ≡ h.0.client.setting) bs
     others [] all is = tt
     others (y ∷ bs) all is = (all.0 ∙ sym is, others bs all.1 is)
 
@@ -175,6 +175,6 @@ pub record MergedSome (x : ClientView) : Type 0 where
   pub apart : IsDistinct (λ a b. a == b) (x.client.number ∷ x.client.kin)
   pub bounded : length x.seen ≤ limit
 
-pub merged_some : (w x : ClientView) (b : Stands) (bs : List Stands) → MergedInTurn w (b ∷ bs) x → MergedSome x
+pub merged_some : (w x : ClientView) (b : StandingBranch) (bs : List StandingBranch) → MergedInTurn w (b ∷ bs) x → MergedSome x
 merged_some w x b [] h = subst MergedSome (sym h.2) (record { apart = h.1.apart; bounded = h.1.bounded })
 merged_some w x b (b1 ∷ bs) h = merged_some h.0 x b1 bs h.2

@@ -10,7 +10,7 @@ use Rattle.qc_script.specs.declared.tx.TxNo.{TxNo}
 use Rattle.qc_script.specs.declared.tx.TxNo.TheVariants as tx_no
 use Rattle.qc_script.specs.Client.{Client, ClientView, Made}
 use Rattle.qc_script.specs.Plan.{Plan, Numbered, PlanFits}
-use Rattle.qc_interp.specs.AtOnce.{Stands, branch_in, BeganInTurn, BeganSome, InPairs, WasShown, HasRun, MayRun, AreOut, MergedInTurn}
+use Rattle.qc_interp.specs.AtOnce.{StandingBranch, branch_in, BeganInTurn, BeganSome, InPairs, WasShown, HasRun, MayRun, AreOut, MergedInTurn}
 use Rattle.qc_interp.specs.Branches.{Branch, row_step}
 use Rattle.qc_interp.specs.Running.{Runs}
 use Rattle.qc_interp.proofs.Listing.Lists.{map_twice}
@@ -27,11 +27,11 @@ pub row_depth : (c : Client) (of : Name) (bodies : List Numbered) → PlanFits c
 row_depth c of [] fits = absurd (let some = fits.1 in omega (arith, some))
 row_depth c of (b ∷ bodies) fits = fits.3.0
 
-pub shown_bodies : (seen : Past) (bs0 bs1 : List Stands) → InPairs (WasShown seen) bs0 bs1 → map (λ (b : Stands). b.body) bs1 ≡ map (λ (b : Stands). b.body) bs0
+pub shown_bodies : (seen : Past) (bs0 bs1 : List StandingBranch) → InPairs (WasShown seen) bs0 bs1 → map (λ (b : StandingBranch). b.body) bs1 ≡ map (λ (b : StandingBranch). b.body) bs0
 shown_bodies seen [] [] h = refl
 shown_bodies seen [] (b ∷ bs1) h = absurd h
 shown_bodies seen (b ∷ bs0) [] h = absurd h
-shown_bodies seen (b ∷ bs0) (b1 ∷ bs1) h = ap (λ k. k ∷ map (λ (y : Stands). y.body) bs1) h.0.body ∙ ap (λ l. b.body ∷ l) (shown_bodies seen bs0 bs1 h.1)
+shown_bodies seen (b ∷ bs0) (b1 ∷ bs1) h = ap (λ k. k ∷ map (λ (y : StandingBranch). y.body) bs1) h.0.body ∙ ap (λ l. b.body ∷ l) (shown_bodies seen bs0 bs1 h.1)
 
 -- where no branch is, none were given and merged
 none_given : {A B : Type 0} (f : A → B) (news olds : List A) → length news ≡ length olds → map f news ≡ [] → olds ≡ []
@@ -39,23 +39,23 @@ none_given f [] [] long is = refl
 none_given f [] (x ∷ olds) long is = absurd cc
 none_given f (x ∷ news) olds long is = absurd cc
 
-none_merged : (v w : ClientView) (ones : List Stands) → MergedInTurn v ones w → ones ≡ [] → w ≡ v
+none_merged : (v w : ClientView) (ones : List StandingBranch) → MergedInTurn v ones w → ones ≡ [] → w ≡ v
 none_merged v w [] merged is = merged
 none_merged v w (b ∷ ones) merged is = absurd cc
 
 -- The bodies were begun, and their branches shown the starts of all. `lent` are the branches before that, as they were lent to it.
-module _ {B : Type 0} (st : B → Stands) (of : Name) (v w1 w2 : ClientView) (items lent ones : List B) (bodies : List Numbered) (runs : Runs v.client of v.seen) (fits : PlanFits v.client.setting (length of) (row_step bodies Plan.done)) (all : lent ≡ items)
+module _ {B : Type 0} (st : B → StandingBranch) (of : Name) (v w1 w2 : ClientView) (items lent ones : List B) (bodies : List Numbered) (runs : Runs v.client of v.seen) (fits : PlanFits v.client.setting (length of) (row_step bodies Plan.done)) (all : lent ≡ items)
     (lent_shown : InPairs (WasShown w1.seen) (map st lent) (map st ones)) (same : w2.client ≡ w1.client) (made : Made w1.client [] w1.seen w2.seen) where
   shown : InPairs (WasShown w1.seen) (map st items) (map st ones)
   shown = subst (λ l. InPairs (WasShown w1.seen) (map st l) (map st ones)) all lent_shown
 
   -- all of them
   module _ (began : BeganInTurn v of (map st items) w1) (are : map (λ b. (st b).body) items ≡ bodies) where
-    were : map (λ (b : Stands). b.body) (map st items) ≡ bodies
-    were = map_twice (λ (b : Stands). b.body) st items ∙ are
+    were : map (λ (b : StandingBranch). b.body) (map st items) ≡ bodies
+    were = map_twice (λ (b : StandingBranch). b.body) st items ∙ are
 
     pub bodies_begun : map (λ b. (st b).body) ones ≡ bodies
-    bodies_begun = sym (map_twice (λ (b : Stands). b.body) st ones) ∙ shown_bodies w1.seen (map st items) (map st ones) shown ∙ were
+    bodies_begun = sym (map_twice (λ (b : StandingBranch). b.body) st ones) ∙ shown_bodies w1.seen (map st items) (map st ones) shown ∙ were
 
     pub row_may : (back : List B) → back ≡ ones → AllByRecursion (MayRun of) (map st back)
     row_may back is = subst (λ l. AllByRecursion (MayRun of) (map st l)) (sym is) (may_run v w1 of (map st items) (map st ones) runs began shown (subst (AllByRecursion (BodyFits v.client.setting (length of))) (sym were) (fits_each v.client.setting (length of) bodies Plan.done fits)))
@@ -118,11 +118,11 @@ module _ {B : Type 0} (st : B → Stands) (of : Name) (v w1 w2 : ClientView) (it
         same = same;
         made = made;
         merged = merged;
-        first = others.2 ∙ ap (λ l. l ++ others.0) (sym (map_twice (λ (b : Stands). b.body) st items));
+        first = others.2 ∙ ap (λ l. l ++ others.0) (sym (map_twice (λ (b : StandingBranch). b.body) st items));
         some = others.1;
         then = Plan.done;
         fits = fits;
-        are = are ∙ sym (map_twice (λ (b : Stands). b.first) st ones);
+        are = are ∙ sym (map_twice (λ (b : StandingBranch). b.first) st ones);
       }
 
       -- where there was no room to begin that one, there is none

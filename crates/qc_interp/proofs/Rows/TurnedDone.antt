@@ -12,7 +12,7 @@ use Rattle.qc_script.specs.Calls.{Refuses}
 use Rattle.qc_script.specs.Client.{ClientView, Made}
 use Rattle.qc_script.specs.Plan.{Plan, Numbered}
 use Rattle.qc_interp.specs.declared.body.branch.BranchCame.TheVariants as came
-use Rattle.qc_interp.specs.AtOnce.{Stands, branch_in, RefusedSo, IsFirst, TurnedSome, TurnedAll, KnowsBehind, WentBehind}
+use Rattle.qc_interp.specs.AtOnce.{StandingBranch, branch_in, RefusedSo, IsFirst, TurnedSome, TurnedAll, KnowsBehind, WentBehind}
 use Rattle.qc_interp.specs.Branches.{Branch, row_step}
 use Rattle.qc_interp.specs.Running.{CutOff, HasActed}
 use Rattle.qc_interp.proofs.Listing.Lists.{all_parts}
@@ -43,9 +43,9 @@ module _ {of : Name} {v w : ClientView} {bodies : List Numbered} {why : TxNo} {f
   turned_want idle s is = subst (Refuses w.seen of) is (turned_refused of v m m1 bs ones why runs began shown same made w merged idle)
 
   -- those that it aborts
-  first_tries : AllByRecursion (IsFirst of w.seen) (map (λ (b : Stands). b.first) ones)
+  first_tries : AllByRecursion (IsFirst of w.seen) (map (λ (b : StandingBranch). b.first) ones)
   first_tries = turned_firsts of v m m1 bs ones why runs began shown same made w merged
-      ((all_parts (BodyFits v.client.setting (length of)) (map (λ (b : Stands). b.body) bs) others (subst (AllByRecursion (BodyFits v.client.setting (length of))) first (fits_each v.client.setting (length of) bodies then fits))).0)
+      ((all_parts (BodyFits v.client.setting (length of)) (map (λ (b : StandingBranch). b.body) bs) others (subst (AllByRecursion (BodyFits v.client.setting (length of))) first (fits_each v.client.setting (length of) bodies then fits))).0)
 
   pub turned_are_firsts : AllByRecursion (IsFirst of w.seen) firsts
   turned_are_firsts = subst (AllByRecursion (IsFirst of w.seen)) (sym are) first_tries

@@ -8,7 +8,7 @@ use Rattle.qc_event.specs.Legal.{Legal}
 use Rattle.qc_script.specs.declared.tx.TxNo.{TxNo}
 use Rattle.qc_script.specs.Client.{Client, ClientView, Made, HasJoined}
 use Rattle.qc_script.specs.Plan.{Plan, Numbered, PlanFits}
-use Rattle.qc_interp.specs.AtOnce.{Stands, branch_in, BeganSome, InPairs, WasShown, MergedInTurn}
+use Rattle.qc_interp.specs.AtOnce.{StandingBranch, branch_in, BeganSome, InPairs, WasShown, MergedInTurn}
 use Rattle.qc_interp.specs.Branches.{Branch, with_all, RanRow, row_step}
 use Rattle.qc_interp.specs.Reach.{Reach}
 use Rattle.qc_interp.specs.Running.{Runs, CutOff}
@@ -33,8 +33,8 @@ use Rattle.qc_interp.proofs.Rows.Whole.{same_numbers}
 pub record RowTurned (of : Name) (v w : ClientView) (bodies : List Numbered) (why : TxNo) (firsts : List Name) : Type 0 where
   pub begun : ClientView
   pub seen_by_all : ClientView
-  pub bs : List Stands
-  pub ones : List Stands
+  pub bs : List StandingBranch
+  pub ones : List StandingBranch
   pub others : List Numbered
   pub runs : Runs v.client of v.seen
   pub began : BeganSome v of bs begun why
@@ -42,11 +42,11 @@ pub record RowTurned (of : Name) (v w : ClientView) (bodies : List Numbered) (wh
   pub same : seen_by_all.client ≡ begun.client
   pub made : Made begun.client [] begun.seen seen_by_all.seen
   pub merged : MergedInTurn seen_by_all ones w
-  pub first : bodies ≡ map (λ (b : Stands). b.body) bs ++ others
+  pub first : bodies ≡ map (λ (b : StandingBranch). b.body) bs ++ others
   pub some : 0 < length others
   pub then : Plan
   pub fits : PlanFits v.client.setting (length of) (row_step bodies then)
-  pub are : firsts ≡ map (λ (b : Stands). b.first) ones
+  pub are : firsts ≡ map (λ (b : StandingBranch). b.first) ones
 
 module _ {of : Name} {v w : ClientView} {bodies : List Numbered} {why : TxNo} {firsts : List Name} (t : RowTurned of v w bodies why firsts) where
   open t use {begun as m, seen_by_all as m1, bs, ones, others, runs, began, shown, same, made, merged, first, some, then, fits}
@@ -60,8 +60,8 @@ module _ {of : Name} {v w : ClientView} {bodies : List Numbered} {why : TxNo} {f
   abbrev branches : List Branch
   branches = map branch_in ones
 
-  each_fits : AllByRecursion (BodyFits c.setting (length of)) (map (λ (b : Stands). b.body) bs)
-  each_fits = (all_parts (BodyFits c.setting (length of)) (map (λ (b : Stands). b.body) bs) others (subst (AllByRecursion (BodyFits c.setting (length of))) first (fits_each c.setting (length of) bodies then fits))).0
+  each_fits : AllByRecursion (BodyFits c.setting (length of)) (map (λ (b : StandingBranch). b.body) bs)
+  each_fits = (all_parts (BodyFits c.setting (length of)) (map (λ (b : StandingBranch). b.body) bs) others (subst (AllByRecursion (BodyFits c.setting (length of))) first (fits_each c.setting (length of) bodies then fits))).0
 
   own : HaveOwnNumbers bodies
   own = fits_own c.setting (length of) bodies then fits
@@ -111,7 +111,7 @@ module _ {of : Name} {v w : ClientView} {bodies : List Numbered} {why : TxNo} {f
     made_alone : ones ≡ [] → Made w.client [] v.seen x
     made_alone none =
         made_both w.client v.seen w.seen x (subst (λ y. Made y [] v.seen w.seen) (sym (alone none)) (turned_made of v m m1 bs ones why runs began shown same made w merged))
-        (subst (λ (l : List Stands). Made w.client (turns_back w.client (map branch_in l) above) w.seen x) none back)
+        (subst (λ (l : List StandingBranch). Made w.client (turns_back w.client (map branch_in l) above) w.seen x) none back)
 
     pub back_cut : (rest : Plan) → CutOff w.client of v.seen x (row_step bodies rest)
     back_cut rest = none_or_some (CutOff w.client of v.seen x (row_step bodies rest)) ones

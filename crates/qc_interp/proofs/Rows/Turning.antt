@@ -16,7 +16,7 @@ use Rattle.qc_script.specs.declared.tx.TxNo.TheVariants as tx_no
 use Rattle.qc_script.specs.Calls.{by_client, Refuses, WasRefused}
 use Rattle.qc_script.specs.Client.{Client, ClientView, mine, Made, HasJoined, is_own}
 use Rattle.qc_script.specs.Plan.{Plan, Numbered}
-use Rattle.qc_interp.specs.AtOnce.{IsFirst, Stands, branch_in, BeganSome, InPairs, WasShown, MayRun, AreOut, MergedInTurn}
+use Rattle.qc_interp.specs.AtOnce.{IsFirst, StandingBranch, branch_in, BeganSome, InPairs, WasShown, MayRun, AreOut, MergedInTurn}
 use Rattle.qc_interp.specs.Branches.{Branch, with_all, seats_of, RanTries, RanRow}
 use Rattle.qc_interp.specs.Reach.{Reach}
 use Rattle.qc_interp.specs.Running.{Runs}
@@ -33,12 +33,12 @@ use Rattle.qc_interp.proofs.Rows.Starts.{StartedInTurn, started_made, started_be
 use Rattle.qc_interp.proofs.Rows.Whole.{StaysOf, all_stay, same_numbers}
 use Rattle.qc_interp.proofs.Trying.TriesLeft.{refused_made}
 
-pub become_itself : (bs : List Stands) → InPairs Became bs bs
+pub become_itself : (bs : List StandingBranch) → InPairs Became bs bs
 become_itself [] = tt
 become_itself (b ∷ bs) = (record { joined = joined_itself b.view.client b.view.seen; body = refl; first = refl }, become_itself bs)
 
 -- who has seen what was seen later has seen what was before
-shown_before : (early late newer : Past) → late ≡ newer ++ early → (bs ones : List Stands) → InPairs (WasShown late) bs ones → InPairs (WasShown early) bs ones
+shown_before : (early late newer : Past) → late ≡ newer ++ early → (bs ones : List StandingBranch) → InPairs (WasShown late) bs ones → InPairs (WasShown early) bs ones
 shown_before early late newer is [] [] all = tt
 shown_before early late newer is [] (o ∷ ones) all = absurd all
 shown_before early late newer is (b ∷ bs) [] all = absurd all
@@ -91,11 +91,11 @@ pub none_or_some : {A : Type 0} (P : Type 0) (xs : List A) → (xs ≡ [] → P)
 none_or_some P [] none some = none refl
 none_or_some P (x ∷ xs) none some = some (omega arith)
 
-pub bodies_in : (bs : List Stands) → map (λ (b : Branch). b.body) (map branch_in bs) ≡ map (λ (b : Stands). b.body) bs
+pub bodies_in : (bs : List StandingBranch) → map (λ (b : Branch). b.body) (map branch_in bs) ≡ map (λ (b : StandingBranch). b.body) bs
 bodies_in [] = refl
 bodies_in (b ∷ bs) = ap (λ l. b.body ∷ l) (bodies_in bs)
 
-module _ (of : Name) (v m m1 : ClientView) (bs ones : List Stands) (why : TxNo) (runs : Runs v.client of v.seen) (began : BeganSome v of bs m why) (shown : InPairs (WasShown m.seen) bs ones) (same : m1.client ≡ m.client) (made : Made m.client [] m.seen m1.seen) where
+module _ (of : Name) (v m m1 : ClientView) (bs ones : List StandingBranch) (why : TxNo) (runs : Runs v.client of v.seen) (began : BeganSome v of bs m why) (shown : InPairs (WasShown m.seen) bs ones) (same : m1.client ≡ m.client) (made : Made m.client [] m.seen m1.seen) where
   abbrev c : Client
   c = v.client
 
@@ -161,7 +161,7 @@ module _ (of : Name) (v m m1 : ClientView) (bs ones : List Stands) (why : TxNo) 
   pub turned_out : AreOut m1.client.out m1.client.net ones
   turned_out = subst (λ (x : Client). AreOut x.out x.net ones) (sym m1_is) (are_out c.net ones c.out fresh (each_can bs ones shown stay))
     where
-      each_can : (xs ys : List Stands) → InPairs (WasShown m.seen) xs ys → AllByRecursion (StaysOf c of) ys → AllByRecursion (CanMerge c.net) ys
+      each_can : (xs ys : List StandingBranch) → InPairs (WasShown m.seen) xs ys → AllByRecursion (StaysOf c of) ys → AllByRecursion (CanMerge c.net) ys
       each_can [] [] all stays = tt
       each_can [] (y ∷ ys) all stays = absurd all
       each_can (x ∷ xs) [] all stays = absurd all
@@ -192,10 +192,10 @@ module _ (of : Name) (v m m1 : ClientView) (bs ones : List Stands) (why : TxNo) 
     pub turned_made : Made joined_one [] v.seen w.seen
     turned_made = made_both d v.seen mid.seen w.seen old_since since
 
-    settings : AllByRecursion (λ (b : Stands). b.view.client.setting ≡ m1.client.setting) ones
+    settings : AllByRecursion (λ (b : StandingBranch). b.view.client.setting ≡ m1.client.setting) ones
     settings = by_list ones stay
       where
-        by_list : (l : List Stands) → AllByRecursion (StaysOf c of) l → AllByRecursion (λ (b : Stands). b.view.client.setting ≡ m1.client.setting) l
+        by_list : (l : List StandingBranch) → AllByRecursion (StaysOf c of) l → AllByRecursion (λ (b : StandingBranch). b.view.client.setting ≡ m1.client.setting) l
         by_list [] all = tt
         by_list (b ∷ l) all = (all.0.setting ∙ sym (ap (λ (x : Client). x.setting) m1_is), by_list l all.1)
 
@@ -213,7 +213,7 @@ module _ (of : Name) (v m m1 : ClientView) (bs ones : List Stands) (why : TxNo) 
         let t = told m.client of mid.seen m.seen why began.2.refused in
         none_or_some (Refuses w.seen of why) ones (λ none. subst (λ h. Refuses h of why) (sym (idle none)) t.0) (λ some. by_list ones some refl t)
       where
-        by_list : (ys : List Stands) → 0 < length ys → ys ≡ ones → Refuses m.seen of why × ((child : Name) → why ≡ tx_no.ChildrenOpen child → ⊥) → Refuses w.seen of why
+        by_list : (ys : List StandingBranch) → 0 < length ys → ys ≡ ones → Refuses m.seen of why × ((child : Name) → why ≡ tx_no.ChildrenOpen child → ⊥) → Refuses w.seen of why
         by_list [] some is t = let z : ⊥ = omega (arith, some) in absurd z
         by_list (y ∷ ys) some is t =
             let bound : length w.seen ≤ limit = (merged_some m1 w y ys (subst (λ l. MergedInTurn m1 l w) (sym is) merged)).bounded in
@@ -221,11 +221,11 @@ module _ (of : Name) (v m m1 : ClientView) (bs ones : List Stands) (why : TxNo) 
 
     -- WHAT THE BRANCHES MADE
 
-    module _ (fits : AllByRecursion (BodyFits v.client.setting (length of)) (map (λ (b : Stands). b.body) bs)) where
+    module _ (fits : AllByRecursion (BodyFits v.client.setting (length of)) (map (λ (b : StandingBranch). b.body) bs)) where
       may : AllByRecursion (MayRun of) ones
       may = may_run v mid of bs ones runs began.1 shown_mid fits
 
-      only_ran : (old : Past) (ys : List Stands) → AllByRecursion (MayRun of) ys → AllByRecursion (MadeNoMore w.seen) ys → StartedInTurn d of old (map branch_in ys) mid.seen
+      only_ran : (old : Past) (ys : List StandingBranch) → AllByRecursion (MayRun of) ys → AllByRecursion (MadeNoMore w.seen) ys → StartedInTurn d of old (map branch_in ys) mid.seen
           → AllByRecursion (λ (b : Branch). HasOnlyBegun d w.seen b × RanTries Reach.cut_off (Unit {0}) b.client b.body w.seen) (map branch_in ys)
       only_ran old [] each none begun = tt
       only_ran old (y ∷ ys) each none (u, one, rest) =
@@ -255,15 +255,15 @@ module _ (of : Name) (v m m1 : ClientView) (bs ones : List Stands) (why : TxNo) 
           by_list (b ∷ l) all = (all.0.1, by_list l all.1)
 
       -- each first try is a user transaction below it
-      pub turned_firsts : AllByRecursion (IsFirst of w.seen) (map (λ (b : Stands). b.first) ones)
+      pub turned_firsts : AllByRecursion (IsFirst of w.seen) (map (λ (b : StandingBranch). b.first) ones)
       turned_firsts = by_list ones may no_more
         where
-          user : (y : Stands) → MayRun of y → MadeNoMore w.seen y → Started w.seen y.first (λ e. IsUser e.kind)
+          user : (y : StandingBranch) → MayRun of y → MadeNoMore w.seen y → Started w.seen y.first (λ e. IsUser e.kind)
           user y may_run none = subst (λ o. MatchOption o ⊥ (λ (e : Begun). IsUser e.kind)) (sym (kept_start (λ (e : Entry). is_own y.view.client e.seat) y.view.client.setting w.seen y.first _ none.legal
               (ap (λ h. start h y.first) (made_is y.view.client [] y.view.seen w.seen none ∙ may_run.made)
               ∙ ap (λ (x : Bool). if x then Some (record { seat = y.view.client.number; kind = kind.User y.view.client.session y.body.number }) else None) (same_itself y.first)))) tt
 
-          by_list : (l : List Stands) → AllByRecursion (MayRun of) l → AllByRecursion (MadeNoMore w.seen) l → AllByRecursion (IsFirst of w.seen) (map (λ (b : Stands). b.first) l)
+          by_list : (l : List StandingBranch) → AllByRecursion (MayRun of) l → AllByRecursion (MadeNoMore w.seen) l → AllByRecursion (IsFirst of w.seen) (map (λ (b : StandingBranch). b.first) l)
           by_list [] each none = tt
           by_list (y ∷ l) each none = ((each.0.is_one, user y each.0 none.0), by_list l each.1 none.1)
 
@@ -278,7 +278,7 @@ module _ (of : Name) (v m m1 : ClientView) (bs ones : List Stands) (why : TxNo) 
         ran = ran;
       }
         where
-          by_list : (ys : List Stands) → 0 < length ys → ys ≡ ones → Rattle.std.specs.List.IsDistinct (λ a b. Rattle.std.specs.Prelude.◌==◌ a b) (d.number ∷ d.kin ++ seats_of branches)
+          by_list : (ys : List StandingBranch) → 0 < length ys → ys ≡ ones → Rattle.std.specs.List.IsDistinct (λ a b. Rattle.std.specs.Prelude.◌==◌ a b) (d.number ∷ d.kin ++ seats_of branches)
           by_list [] none is = let z : ⊥ = omega (arith, none) in absurd z
           by_list (y ∷ ys) any is =
               subst (λ (x : Client). Rattle.std.specs.List.IsDistinct (λ a b. Rattle.std.specs.Prelude.◌==◌ a b) (x.number ∷ x.kin)) turned_client

@@ -11,7 +11,7 @@ ghost use Rattle.qc_script.specs.Plan.{Plan, Numbered, PlanFits, row_of};
 ghost use Rattle.qc_script.specs.Steps.{numbered};
 ghost use Rattle.qc_interp.specs.declared.body.branch.BranchCame.TheVariants as came;
 ghost use Rattle.qc_interp.specs.AtOnce as at_once;
-ghost use Rattle.qc_interp.specs.AtOnce.{Stands, stands, HasBegun, NotBegun, BeganInTurn, BeganSome, InPairs, WasShown, MayRun, HasRun, AreOut, MergedInTurn, row_came, KnowsBehind, WentBehind, RefusedSo, IsFirst, TurnedOne, TurnedAll, TurnedSome};
+ghost use Rattle.qc_interp.specs.AtOnce.{StandingBranch, stands, HasBegun, NotBegun, BeganInTurn, BeganSome, InPairs, WasShown, MayRun, HasRun, AreOut, MergedInTurn, row_came, KnowsBehind, WentBehind, RefusedSo, IsFirst, TurnedOne, TurnedAll, TurnedSome};
 ghost use Rattle.qc_interp.specs.Branches.{row_step};
 ghost use Rattle.qc_interp.specs.Running.{Runs, CutOff, HasActed};
 

@@ -16,7 +16,7 @@ use Rattle.qc_codec.proofs.Bodies.{exact_grant, exact_made}
 use Rattle.qc_codec.proofs.Exact.{IsBytes, all_takes}
 use Rattle.qc_refine.proofs.Restoring.ImageReadings.{read_again}
 use Rattle.qc_site.specs.Image.{AreGranted, made_body, to_write}
-use Rattle.qc_site.specs.Mounted.{Mounts}
+use Rattle.qc_site.specs.Mounted.{MountsCopy}
 use Rattle.qc_opening.proofs.KeptDisks.InOrder.{Bytes, are_bytes, each_holds}
 use Rattle.qc_refine.proofs.Order.DonesWalk.{all_front}
 
@@ -77,7 +77,7 @@ module _ (copy : ℕ) (table : Table) (past : Past) where
       subst AreSpelled (sym (append-nil (first ∷ rest)))
       (each_holds (MayStand copy table past) AreSpelled longer (first ∷ []) rest (begin first one.0) granted.order (All-tail Bytes first rest fit))
 
-  pub mounted : (limit : ℕ) (told : Option (List ℕ)) (records : List (List ℕ)) → Mounts copy table past limit told records → All Bytes records → AreSpelled records
+  pub mounted : (limit : ℕ) (told : Option (List ℕ)) (records : List (List ℕ)) → MountsCopy copy table past limit told records → All Bytes records → AreSpelled records
   mounted limit told records m fit = subst AreSpelled (sym m.all) (by_found m.found m.granted (all_front Bytes m.found (to_write copy table m.found) (subst (All Bytes) m.all fit)))
 
 -- a proper table's copies have made records

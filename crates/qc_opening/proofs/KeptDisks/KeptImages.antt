@@ -1,7 +1,7 @@
 -- Images of the disks that a system hands back, one of each, are kept.
 use Rattle.std.proofs.Common.{◌≡◌, ℕ, ◌+◌, ◌≤◌, true, List, [], length, arith}
 use Rattle.std.specs.Prelude.{Some, slice_get, slice_index_or}
-use Rattle.qc_disk.specs.Disk.{View as Disk}
+use Rattle.qc_disk.specs.Disk.{DiskView as Disk}
 use Rattle.qc_event.specs.declared.table.Table.{Table}
 use Rattle.qc_event.specs.History.{Past}
 use Rattle.qc_event.specs.Tables.{setting_of}

@@ -16,7 +16,7 @@ use Rattle.qc_codec.specs.declared.record.LedgerRecord.TheVariants.{Made, Epoch,
 use Rattle.qc_codec.proofs.Bodies.{exact_ledger}
 use Rattle.qc_codec.proofs.Exact.{IsBytes, all_takes}
 use Rattle.qc_ledger.specs.Image.{AreLedgers, epoch_body, made_body, to_write}
-use Rattle.qc_ledger.specs.Mounted.{Mounts}
+use Rattle.qc_ledger.specs.Mounted.{MountsLedger}
 use Rattle.qc_ledger.proofs.Firsts.{made_proper}
 use Rattle.qc_ledger.proofs.Writing.{epoch_fits}
 use Rattle.qc_refine.specs.Images.{CountUpTo}
@@ -178,5 +178,5 @@ module _ (table : Table) where
         (written (made_body table ∷ []) past epoch 0 [] made (is ∙ sym told) next small)
     by_found (first ∷ rest) ledgers is next fit = let (last, old, s) = found_spelled first rest ledgers fit in written (first ∷ rest) past epoch last old s is next small
 
-    pub mounted : (limit : ℕ) (told : Option (List ℕ)) (records : List (List ℕ)) → Mounts table limit told records past epoch → All Bytes records → Mounted past epoch records
+    pub mounted : (limit : ℕ) (told : Option (List ℕ)) (records : List (List ℕ)) → MountsLedger table limit told records past epoch → All Bytes records → Mounted past epoch records
     mounted limit told records m fit = subst (Mounted past epoch) (sym m.all) (by_found m.found m.ledgers m.past_is m.next (all_front Bytes m.found (to_write table m.found) (subst (All Bytes) m.all fit)))

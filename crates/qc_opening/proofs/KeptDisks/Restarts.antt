@@ -27,7 +27,7 @@ use Rattle.qc_refine.specs.Restored.{granted_at, restored}
 use Rattle.qc_refine.specs.Standing.{IsOfEpoch, committed_too}
 use Rattle.qc_refine.proofs.Restoring.ImageReadings.{copy_told}
 use Rattle.qc_refine.proofs.Restoring.RestoredImages.{carry_final, nothing_restored, restore_one, restore_some}
-use Rattle.qc_site.specs.Image.{AreMountable, to_write}
+use Rattle.qc_site.specs.Image.{AreMountableAsCopy, to_write}
 use Rattle.qc_opening.specs.Mountings.{AreKept, AreLeft, CarryNext, HaveNoGrants, IsMounted}
 use Rattle.qc_opening.proofs.KeptDisks.CutOff.{left_many, left_restored, same_grants}
 use Rattle.qc_opening.proofs.KeptDisks.Stands.{rows_restored, stand}
@@ -95,7 +95,7 @@ module _ (table : Table) (told : ℕ → Option (List ℕ)) (records later_recor
 
 module _ (table : Table) (told : ℕ → Option (List ℕ)) (records : ℕ → List (List ℕ)) (epoch : ℕ) (base : List (List Tuple)) (m : IsMounted table told records epoch base) (none : HaveNoGrants table told) where
   no_grants : (copy : ℕ) (past : Logs) (limit : ℕ) (found : List (List ℕ)) (o : Option (List ℕ)) → IsSome o → IfSome o (λ image. HasRecords [] image ⊎ IsCopyImage table copy [] image)
-      → IfSome o (λ bytes. HasRecords found bytes × AreMountable copy table past limit found) → readings (grant_form table) found ≡ []
+      → IfSome o (λ bytes. HasRecords found bytes × AreMountableAsCopy copy table past limit found) → readings (grant_form table) found ≡ []
   no_grants copy past limit found None some fresh fine = absurd cc
   no_grants copy past limit found (Some image) some (inl empty) fine = ap (readings (grant_form table)) (records-same image [] found empty fine.0)
   no_grants copy past limit found (Some image) some (inr fresh) fine = copy_told table image found fine.0 copy [] fresh

@@ -124,7 +124,7 @@ mounted = record {
     each_bytes (suc zero) few = copy_bytes
     each_bytes (suc (suc number)) few = absurd (omega (arith, few))
 
-    each_copy : (copy : ℕ) → copy < 1 → copies.Mounts copy table (record { epoch = 0; tops = [] }) 1000 (Some []) (records (copy + 1))
+    each_copy : (copy : ℕ) → copy < 1 → copies.MountsCopy copy table (record { epoch = 0; tops = [] }) 1000 (Some []) (records (copy + 1))
     each_copy zero there = record {
       found = [];
       granted = record { made = tt; order = each_none (Copy.MayStand 0 table (record { epoch = 0; tops = [] })) };

@@ -4,7 +4,7 @@ use Rattle.std.specs.Prelude.{◌↔◌, Option, Some, IfSome, IsSome}
 use Rattle.qc_codec.specs.declared.image.BadImage.{BadImage}
 use Rattle.qc_codec.specs.declared.image.ImageFault.{ImageFault}
 use Rattle.qc_codec.specs.declared.past.Past.{Past}
-use Rattle.qc_disk.specs.Disk.{View}
+use Rattle.qc_disk.specs.Disk.{DiskView}
 use Rattle.qc_disk.specs.Shop.{Tells}
 use Rattle.qc_event.specs.declared.table.Table.{Table}
 use Rattle.qc_journal.specs.Image.{HasAt}
@@ -59,7 +59,7 @@ among_more most P Q (Disk which) also among = (omega arith, among.1)
 among_more most P Q (Image bad) also among = (omega arith, among.1, also bad among.2)
 among_more most P Q Memory also among = tt
 
-pub ledger_reason_at : (P : ImageFault → Type 0) (refusal : LedgerNo) → ledger_refusing.IsImage P refusal → IsReasonAt 0 P (ledger_reason refusal)
+pub ledger_reason_at : (P : ImageFault → Type 0) (refusal : LedgerNo) → ledger_refusing.IsOfLedgerImage P refusal → IsReasonAt 0 P (ledger_reason refusal)
 ledger_reason_at P ledger.Disk is = refl
 ledger_reason_at P (ledger.Image bad) is = is
 ledger_reason_at P (ledger.Full place) is = tt
@@ -71,7 +71,7 @@ ledger_failed (ledger.Image bad) failed = absurd failed
 ledger_failed (ledger.Full place) failed = absurd failed
 ledger_failed (ledger.Short short) failed = absurd failed
 
-pub copy_reason_at : (copy : ℕ) (P : ImageFault → Type 0) (refusal : SiteNo) → site_refusing.IsImage copy P refusal → IsReasonAt (copy + 1) P (copy_reason copy refusal)
+pub copy_reason_at : (copy : ℕ) (P : ImageFault → Type 0) (refusal : SiteNo) → site_refusing.IsOfCopyImage copy P refusal → IsReasonAt (copy + 1) P (copy_reason copy refusal)
 copy_reason_at copy P site.Disk is = refl
 copy_reason_at copy P (site.Image bad) is = is
 copy_reason_at copy P site.Strange is = tt
@@ -85,7 +85,7 @@ copy_failed copy (site.Short short) failed = absurd failed
 
 -- DISKS
 
-module _ {D : Type 0} (view : D → View) where
+module _ {D : Type 0} (view : D → DiskView) where
   -- a mounting that did not fail
   pub mounted_for : (written : List (List ℕ) → List (List ℕ)) (Failed Now : Type 0) (old new : D) → (Now → Failed) → IsMounted view written Failed old new → IsMounted view written Now old new
   mounted_for written Failed Now old new was mounted = record {
@@ -121,14 +121,14 @@ module _ {D : Type 0} (view : D → View) where
 
   -- a ledger's disk that was refused
   pub ledger_refused : (written : List (List ℕ) → List (List ℕ)) (old new : D) (refusal : LedgerNo) (reason : Reason) (P : ImageFault → Type 0) → reason ≡ ledger_reason refusal → IsMounted view written (refusal ≡ ledger.Disk) old new
-      → ledger_refusing.IsImage P refusal → IsMounted view written (FailedAt reason 0) old new × IsReasonAt 0 P reason
+      → ledger_refusing.IsOfLedgerImage P refusal → IsMounted view written (FailedAt reason 0) old new × IsReasonAt 0 P reason
   ledger_refused written old new refusal reason P is mounted image =
       let Refused : Reason → Type 0 = λ r. IsMounted view written (FailedAt r 0) old new × IsReasonAt 0 P r in
       subst Refused (sym is) (mounted_for written (refusal ≡ ledger.Disk) (FailedAt (ledger_reason refusal) 0) old new (ledger_failed refusal) mounted, ledger_reason_at P refusal image)
 
   -- a copy's disk that was refused
   pub copy_refused : (copy : ℕ) (written : List (List ℕ) → List (List ℕ)) (old new : D) (refusal : SiteNo) (reason : Reason) (P : ImageFault → Type 0) → reason ≡ copy_reason copy refusal → IsMounted view written (refusal ≡ site.Disk) old new
-      → site_refusing.IsImage copy P refusal → IsMounted view written (FailedAt reason (copy + 1)) old new × IsReasonAt (copy + 1) P reason
+      → site_refusing.IsOfCopyImage copy P refusal → IsMounted view written (FailedAt reason (copy + 1)) old new × IsReasonAt (copy + 1) P reason
   copy_refused copy written old new refusal reason P is mounted image =
       let Refused : Reason → Type 0 = λ r. IsMounted view written (FailedAt r (copy + 1)) old new × IsReasonAt (copy + 1) P r in
       subst Refused (sym is) (mounted_for written (refusal ≡ site.Disk) (FailedAt (copy_reason copy refusal) (copy + 1)) old new (copy_failed copy refusal) mounted, copy_reason_at copy P refusal image)

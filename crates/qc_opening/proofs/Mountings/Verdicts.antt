@@ -16,11 +16,11 @@ use Rattle.qc_opening.specs.Numbered.{EachFrom}
 -- what `one_verdict` says of a copy's image
 abbrev OneCopy : Type 0
 OneCopy = (copy : ℕ) (table : Table) (past : Past) (limit : ℕ) (image : List ℕ) (fault other : ImageFault)
-    → ledger.IsFirstFault (site.IsFault copy table past limit) fault image → ledger.IsFirstFault (site.IsFault copy table past limit) other image → other ≡ fault
+    → ledger.IsFirstFault (site.IsCopyFault copy table past limit) fault image → ledger.IsFirstFault (site.IsCopyFault copy table past limit) other image → other ≡ fault
 
 abbrev NotBothCopy : Type 0
 NotBothCopy = (copy : ℕ) (table : Table) (past : Past) (limit : ℕ) (image : List ℕ) (fault : ImageFault) (bodies : List (List ℕ))
-    → ledger.IsFirstFault (site.IsFault copy table past limit) fault image → HasRecords bodies image → site.AreMountable copy table past limit bodies → ⊥
+    → ledger.IsFirstFault (site.IsCopyFault copy table past limit) fault image → HasRecords bodies image → site.AreMountableAsCopy copy table past limit bodies → ⊥
 
 bad_image : ℕ → ImageFault → BadImage
 bad_image disk fault = record { disk = disk; fault = fault }
@@ -30,7 +30,7 @@ unfolding bad_image
 same_bad one two d f = ap₂ bad_image d f
 
 module _ (table : Table) (limit : ℕ) (one_copy : OneCopy) (not_both_copy : NotBothCopy) where
-  not_sound_copy : (past : Past) (copy : ℕ) (image : List ℕ) (fault : ImageFault) → ledger.IsFirstFault (site.IsFault copy table past limit) fault image → IsSoundCopy table limit past copy image → ⊥
+  not_sound_copy : (past : Past) (copy : ℕ) (image : List ℕ) (fault : ImageFault) → ledger.IsFirstFault (site.IsCopyFault copy table past limit) fault image → IsSoundCopy table limit past copy image → ⊥
   not_sound_copy past copy image fault is sound = not_both_copy copy table past limit image fault sound.found is sound.has sound.fine
 
   one_of_copies : (past : Past) (bad other : BadImage) (copy : ℕ) (images : List (List ℕ)) → IsCopiesFault table limit past bad copy images → IsCopiesFault table limit past other copy images → other ≡ bad

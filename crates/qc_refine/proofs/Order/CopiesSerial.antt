@@ -22,7 +22,7 @@ use Rattle.qc_serial.specs.Shape.{after}
 use Rattle.qc_refine.specs.InTurn.{IsDone, given_to, left_setting, values_after}
 use Rattle.qc_refine.specs.Turns.{dones_order}
 use Rattle.qc_refine.proofs.Managers.AllDone.{order_done}
-use Rattle.qc_refine.proofs.Order.DonesWalk.{Below, Follows, order_follows}
+use Rattle.qc_refine.proofs.Order.DonesWalk.{Below, DonesFollow, order_follows}
 use Rattle.qc_refine.proofs.Managers.GivenDones.{given_order}
 use Rattle.qc_refine.proofs.Order.Grounded.{grounded}
 use Rattle.qc_refine.proofs.Copies.InTurn.{reads_answer, left_sound}
@@ -46,7 +46,7 @@ module _ (setting : Setting) (values : List ℕ) (past : Past) (t : Name) (legal
   pub there : Finds setting.base (given_to (dones_order past t))
   there = subst (Finds setting.base) (sym (given_order setting past t legal user)) (finds setting past t legal user alive)
 
-  follows : Follows values (serialise past t) (dones_order past t)
+  follows : DonesFollow values (serialise past t) (dones_order past t)
   follows = order_follows (length setting.firsts) past t values (has_values setting values sound)
       (All-weaker (IsDone setting) (Below (length setting.firsts)) (λ d is. is.record_there) (dones_order past t) done)
       (reads_answer setting values (dones_order past t) sound done there)

@@ -68,13 +68,13 @@ abbrev pub Below : ℕ → Done → Type 0
 Below n d = record_of d.kind < n
 
 -- each read of events finds its value, and they leave the values that managers leave
-pub record Follows (values : List ℕ) (es : List SerialEvent) (ds : List Done) : Type 0 where
+pub record DonesFollow (values : List ℕ) (es : List SerialEvent) (ds : List Done) : Type 0 where
   pub reads : Reads values es
   pub leaves : after values es ≡ values_after values ds
 
 -- events follow managers from any values on, of all the records, at which those answer
 abbrev pub Follow : ℕ → List SerialEvent → List Done → Type 0
-Follow n es ds = (values : List ℕ) → n ≤ length values → All (Below n) ds → AnswerValues values ds → Follows values es ds
+Follow n es ds = (values : List ℕ) → n ≤ length values → All (Below n) ds → AnswerValues values ds → DonesFollow values es ds
 
 nothing : (n : ℕ) → Follow n [] []
 nothing n values long below told = record { reads = tt; leaves = refl }

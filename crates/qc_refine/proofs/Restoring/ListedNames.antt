@@ -182,17 +182,17 @@ module _ (setting : Setting) (past : Past) (legal : Legal setting past) (few : l
       by_start (Some b) at h = started_short setting past n b legal at
 
   module _ (x : ℕ) (first_small : x < 2 ^ 64) (began : is_some (start past (x ∷ [])) ≡ true) where
-    abbrev Told : Name → Type 0
-    Told n = IsBelow (x ∷ []) n × WasAborted past n
+    abbrev ToldName : Name → Type 0
+    ToldName n = IsBelow (x ∷ []) n × WasAborted past n
 
-    told_fits : (n : Name) → Told n → (body.below x).fits n
+    told_fits : (n : Name) → ToldName n → (body.below x).fits n
     told_fits n told =
         let started = aborted_started n told.1 in
         below_fits x (length past) n first_small (omega (arith, few)) told.0 (started_numbered setting past n legal started) (started_small setting past n legal started) (name_short n started)
 
-    both : (ns : List Name) → All (IsBelow (x ∷ [])) ns → All (WasAborted past) ns → All Told ns
-    both [] below aborted = All-nil Told
-    both (n ∷ ns) below aborted = All-cons Told n ns (All-head (IsBelow (x ∷ [])) n ns below, All-head (WasAborted past) n ns aborted) (both ns (All-tail (IsBelow (x ∷ [])) n ns below) (All-tail (WasAborted past) n ns aborted))
+    both : (ns : List Name) → All (IsBelow (x ∷ [])) ns → All (WasAborted past) ns → All ToldName ns
+    both [] below aborted = All-nil ToldName
+    both (n ∷ ns) below aborted = All-cons ToldName n ns (All-head (IsBelow (x ∷ [])) n ns below, All-head (WasAborted past) n ns aborted) (both ns (All-tail (IsBelow (x ∷ [])) n ns below) (All-tail (WasAborted past) n ns aborted))
 
     -- the record of a started top, with the names that are listed of it, fits
     pub number_top_fits : body.ledger.fits (Top (x ∷ []) (listed past (x ∷ [])))
@@ -201,7 +201,7 @@ module _ (setting : Setting) (past : Past) (legal : Legal setting past) (few : l
         let numbered = started_numbered setting past (x ∷ []) legal began in
         let count = listed_few past (x ∷ []) in (
           number_fits x first_small numbered.0 numbered.1,
-          ((omega (arith, count, few), (refl, All-weaker Told (body.below x).fits told_fits (listed past (x ∷ [])) (both (listed past (x ∷ [])) (listed_below past (x ∷ [])) (listed_aborted setting past (x ∷ []) legal)))), tt),
+          ((omega (arith, count, few), (refl, All-weaker ToldName (body.below x).fits told_fits (listed past (x ∷ [])) (both (listed past (x ∷ [])) (listed_below past (x ∷ [])) (listed_aborted setting past (x ∷ []) legal)))), tt),
         )
 
 -- so does that of a top of an epoch

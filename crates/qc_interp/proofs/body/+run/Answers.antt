@@ -22,7 +22,7 @@ use Rattle.qc_interp.proofs.Trying.Tried.{may_begin, runs_begun}
 use Rattle.qc_interp.proofs.Trying.TriesLeft.{TriesLeft, all_failed, none_to_begin, none_tried}
 use mathlib.Core.Bool.{true≢false}
 use Rattle.qc_interp.specs.declared.body.branch.Branch.{Branch as Held}
-use Rattle.qc_interp.specs.AtOnce.{Stands, stands, row_came, WentBehind, MayRun, HasRun, TriesEnd}
+use Rattle.qc_interp.specs.AtOnce.{StandingBranch, stands, row_came, WentBehind, MayRun, HasRun, TriesEnd}
 use Rattle.qc_interp.proofs.Branching.Plans.{row_heavier}
 use Rattle.qc_interp.specs.declared.body.branch.BranchCame.TheVariants as came
 use Rattle.qc_interp.specs.Branches.{row_step}
@@ -706,7 +706,7 @@ row::par-begin_all-begun-requires-clause-depth g t c = row_depth (g.T.Tx.view c.
 pub row::par-show_all-requires-clause-all_met : goal.row::par-show_all-requires-clause-all_met
 row::par-show_all-requires-clause-all_met g t c =
     let st = stands g.T.Tx.view in
-    subst (λ l. AllByRecursion (λ (b : Stands). MeetsLink b.view) (map st l)) (sym c.as_mut_slice.ensures.value) c.begin_all-begun.ensures.all_met
+    subst (λ l. AllByRecursion (λ (b : StandingBranch). MeetsLink b.view) (map st l)) (sym c.as_mut_slice.ensures.value) c.begin_all-begun.ensures.all_met
 
 pub row::par-run_all-requires : goal.row::par-run_all-requires
 row::par-run_all-requires g t c κs within =

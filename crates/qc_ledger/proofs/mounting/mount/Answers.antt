@@ -3,7 +3,7 @@ use Rattle.qc_disk.specs.Disk.{Grows, LeavesOnly}
 use Rattle.qc_journal.specs.Image.{HasAt, bodies_of}
 use Rattle.qc_journal.specs.Journal.{Keeps, disk_of, limit_of}
 use Rattle.qc_journal.proofs.Moments.{continues, grows_on}
-use Rattle.qc_ledger.specs.Image.{AreMountable, to_write}
+use Rattle.qc_ledger.specs.Image.{AreMountableAsLedger, to_write}
 use Rattle.qc_ledger.specs.Mounted.{HasSome, MountLeaves}
 use Rattle.qc_ledger.specs.Refusing.{IsLedgerRefusal}
 use Rattle.qc_ledger.proofs.Mounts.{begin_refusal, fine_told, leaves_first, leaves_then, mount_refusal}
@@ -21,8 +21,8 @@ returns-in-Ok-begin-clause-mounts g c =
     record {
       found = found;
       ledgers = c.in-Ok-begin.ensures.ledgers;
-      fine = fine_told (AreMountable c.args.table.now c.args.limit found) (g.D.Disk.view c.args.disk).content found c.in-Ok.ensures.records
-          (λ some. subst (λ n. AreMountable c.args.table.now n found) c.in-Ok.ensures.limit (c.in-Ok-begin.ensures.fine (c.in-Ok.ensures.keeps some)));
+      fine = fine_told (AreMountableAsLedger c.args.table.now c.args.limit found) (g.D.Disk.view c.args.disk).content found c.in-Ok.ensures.records
+          (λ some. subst (λ n. AreMountableAsLedger c.args.table.now n found) c.in-Ok.ensures.limit (c.in-Ok-begin.ensures.fine (c.in-Ok.ensures.keeps some)));
       past_is = c.in-Ok-begin.ensures.past;
       next = refl;
       all = c.in-Ok-begin.ensures.bodies;

@@ -4,7 +4,7 @@ use Rattle.qc_event.specs.declared.table.Table.{Table}
 use Rattle.qc_codec.specs.Bodies as body
 use Rattle.qc_codec.specs.Ledger.{made_for}
 use Rattle.qc_journal.specs.Image.{bodies_of}
-use Rattle.qc_ledger.specs.Image.{IsFault, made_body}
+use Rattle.qc_ledger.specs.Image.{IsLedgerFault, made_body}
 use Rattle.qc_ledger.proofs.Firsts.{handed_on, made_proper}
 use Rattle.qc_ledger.proofs.Writing.{epoch_fits, made_spelled}
 use Rattle.qc_ledger.proofs.mounting.plan_of.Goals as goal
@@ -15,8 +15,8 @@ past_of-requires-clause-spelled c = c.deref.ensures.value ∙ c.in_ok-spelled.en
 pub returns-in_err-past-clause-fault : goal.returns-in_err-past-clause-fault
 returns-in_err-past-clause-fault c = λ limit.
     let bodies = bodies_of c.args.bodies.now in
-    handed_on c.from_residual-in_err-past.result c.in_err-past.field-0.0 (IsFault c.in_ok-copy_table.field-0 limit bodies) (IsFault c.args.table.now limit bodies)
-    (λ f is. subst (λ (t : Table). IsFault t limit bodies f) c.in_ok-copy_table.ensures is)
+    handed_on c.from_residual-in_err-past.result c.in_err-past.field-0.0 (IsLedgerFault c.in_ok-copy_table.field-0 limit bodies) (IsLedgerFault c.args.table.now limit bodies)
+    (λ f is. subst (λ (t : Table). IsLedgerFault t limit bodies f) c.in_ok-copy_table.ensures is)
     c.from_residual-in_err-past.ensures.1 (c.in_err-past.ensures.fault limit)
 
 pub write_ledger-requires : goal.write_ledger-requires

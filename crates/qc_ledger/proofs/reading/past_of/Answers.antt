@@ -1,7 +1,7 @@
 -- What is wrong with the first body is the first fault of all.
 use Rattle.std.proofs.Common.{◌∷◌, ◌∙◌, ap, sym, length, drop}
 use Rattle.qc_journal.specs.Image.{bodies_of}
-use Rattle.qc_ledger.specs.Image.{IsFault}
+use Rattle.qc_ledger.specs.Image.{IsLedgerFault}
 use Rattle.qc_ledger.specs.Reading.{IsFirstBad}
 use Rattle.qc_ledger.proofs.Firsts.{first_fault, handed_on, with_first}
 use Rattle.qc_event.proofs.Numbers.{nonzero}
@@ -11,6 +11,6 @@ pub returns-in_err-check_made-clause-fault : goal.returns-in_err-check_made-clau
 returns-in_err-check_made-clause-fault c = λ limit.
     let bodies = c.args.bodies.now in
     let v = c.index-bodies-0.result in
-    handed_on c.from_residual.result c.in_err-check_made.field-0.0 (IsFirstBad c.args.made.table c.as_slice.result.now) (IsFault c.args.made.table limit (bodies_of bodies))
+    handed_on c.from_residual.result c.in_err-check_made.field-0.0 (IsFirstBad c.args.made.table c.as_slice.result.now) (IsLedgerFault c.args.made.table limit (bodies_of bodies))
     (first_fault c.args.made.table limit c.as_slice.result.now (bodies_of bodies) (bodies_of (drop 1 bodies)) (with_first bodies v (nonzero (length bodies) (sym c.is_empty.ensures ∙ c.if-is_empty.false)) c.index-bodies-0.is ∙ ap (λ b. b ∷ bodies_of (drop 1 bodies)) (sym c.as_slice.ensures.value)))
     c.from_residual.ensures.1 c.in_err-check_made.ensures.fault

@@ -2,7 +2,7 @@
 use Rattle.std.proofs.Common.{ap, arith, length}
 use Rattle.std.specs.Prelude.{IfSome}
 use Rattle.qc_ledger.specs.Image.{IsFirstFault}
-use Rattle.qc_site.specs.Image.{to_write, IsFault}
+use Rattle.qc_site.specs.Image.{to_write, IsCopyFault}
 use Rattle.qc_opening.specs.Waiting.{waiting_in}
 use Rattle.qc_opening.proofs.Mountings.Disks.{copy_refused}
 use Rattle.qc_opening.proofs.copies.mount_copy.Goals as goal
@@ -39,6 +39,6 @@ returns-in-Err-clause-refused g c =
       old_is = c.take.ensures.disks;
       new_is = c.put_back.ensures.disks;
       became = copy_refused g.D.Disk.view c.args.copy (to_write c.args.copy c.args.table.now) before c.in-Err.disk c.in-Err.no c.copy_reason.result
-          (λ fault. IfSome (g.D.Disk.view before).content (IsFirstFault (IsFault c.args.copy c.args.table.now c.args.past.now c.args.limit) fault)) c.copy_reason.ensures
+          (λ fault. IfSome (g.D.Disk.view before).content (IsFirstFault (IsCopyFault c.args.copy c.args.table.now c.args.past.now c.args.limit) fault)) c.copy_reason.ensures
           (record { any_moment = told.any_moment; grows = told.grows; cause = told.cause }) told.refused;
     }

@@ -1,7 +1,7 @@
 -- What the mounting of the ledger says of the next disk.
 use Rattle.std.proofs.Common.{ap, arith, length}
 use Rattle.std.specs.Prelude.{IfSome}
-use Rattle.qc_ledger.specs.Image.{to_write, IsFault, IsFirstFault}
+use Rattle.qc_ledger.specs.Image.{to_write, IsLedgerFault, IsFirstFault}
 use Rattle.qc_opening.specs.Waiting.{waiting_in}
 use Rattle.qc_opening.proofs.Mountings.Disks.{ledger_refused}
 use Rattle.qc_opening.proofs.ledger.mount_ledger.Goals as goal
@@ -34,6 +34,6 @@ returns-in-Err-clause-refused g c =
       old_is = c.take.ensures.disks;
       new_is = c.put_back.ensures.disks;
       became = ledger_refused g.D.Disk.view (to_write c.args.table.now) before c.in-Err.disk c.in-Err.no c.ledger_reason.result
-          (λ fault. IfSome (g.D.Disk.view before).content (IsFirstFault (IsFault c.args.table.now c.args.limit) fault)) c.ledger_reason.ensures
+          (λ fault. IfSome (g.D.Disk.view before).content (IsFirstFault (IsLedgerFault c.args.table.now c.args.limit) fault)) c.ledger_reason.ensures
           (record { any_moment = told.any_moment; grows = told.grows; cause = told.cause }) told.refused;
     }

@@ -3,13 +3,13 @@ use Rattle.std.proofs.Common.{ℕ, ◌≡◌, ◌≢◌, ◌+◌, ◌≤◌, Lis
 use Rattle.std.specs.Prelude.{Err}
 use Rattle.std.proofs.lemmas.List.{length-append}
 use Rattle.std.proofs.lemmas.List.FromFn.{map-range_with_len_more}
-use Rattle.qc_disk.specs.Shop.{View, Tells, TellsAlike, first_disks, if_given}
+use Rattle.qc_disk.specs.Shop.{ShopView, Tells, TellsAlike, first_disks, if_given}
 use Rattle.qc_opening.specs.Disks.{AreCounted, AreOffered}
 use Rattle.qc_opening.proofs.Mountings.Numbered.{each_more}
 use Rattle.qc_opening.proofs.obtaining.obtain_all.Goals as goal
 
 -- what is told alike twice is told alike
-alike_twice : (first mid last : View) (place : List ℕ) (which : ℕ) → TellsAlike mid last place which → TellsAlike first mid place which → TellsAlike first last place which
+alike_twice : (first mid last : ShopView) (place : List ℕ) (which : ℕ) → TellsAlike mid last place which → TellsAlike first mid place which → TellsAlike first last place which
 alike_twice first mid last place which later sooner = record { offers = later.offers ∙ sooner.offers; counts = later.counts ∙ sooner.counts }
 
 -- one disk more of a place was given

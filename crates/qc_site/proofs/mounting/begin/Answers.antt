@@ -9,8 +9,8 @@ use Rattle.qc_ledger.proofs.Writing.{kept_has, some_of_none}
 use Rattle.qc_codec.specs.declared.image.ImageFault.{ImageFault}
 use Rattle.qc_ledger.specs.Image.{made_where_none, IsFull}
 use Rattle.qc_ledger.specs.Runs.{KeepsAll}
-use Rattle.qc_site.specs.Image.{IsFault, AreGranted, to_write}
-use Rattle.qc_site.specs.Refusing.{IsImage}
+use Rattle.qc_site.specs.Image.{IsCopyFault, AreGranted, to_write}
+use Rattle.qc_site.specs.Refusing.{IsOfCopyImage}
 use Rattle.qc_site.proofs.Faults.{no_disk, passed_on, write_refusal}
 use Rattle.qc_site.proofs.mounting.begin.Goals as goal
 
@@ -21,8 +21,8 @@ returns-in_err-grants-clause-refused g c =
     let past = c.args.past.now in
     let limit = limit_of c.args.journal.now in
     let bodies = bodies_of c.args.bodies.now.items in
-    passed_on copy c.from_residual-in_err-grants.result c.in_err-grants.field-0.0 (IsFault copy table past limit (bodies_of c.deref-2.result.now)) (λ fault. Keeps c.args.journal.now bodies → IsFault copy table past limit bodies fault)
-    (λ f is k. subst (λ (b : List (List ℕ)). IsFault copy table past limit b f) (ap bodies_of c.deref-2.ensures.value) is)
+    passed_on copy c.from_residual-in_err-grants.result c.in_err-grants.field-0.0 (IsCopyFault copy table past limit (bodies_of c.deref-2.result.now)) (λ fault. Keeps c.args.journal.now bodies → IsCopyFault copy table past limit bodies fault)
+    (λ f is k. subst (λ (b : List (List ℕ)). IsCopyFault copy table past limit b f) (ap bodies_of c.deref-2.ensures.value) is)
     c.from_residual-in_err-grants.ensures.1 (c.in_err-grants.ensures.fault limit)
 
 pub returns-clause-refused : goal.returns-clause-refused
@@ -32,16 +32,16 @@ returns-clause-refused g c =
     let past = c.args.past.now in
     let limit = limit_of c.args.journal.now in
     let bodies = bodies_of c.args.bodies.now.items in
-    let P = λ (fault : ImageFault). KeepsAll c.args.journal.now c.args.bodies.now → IsFault copy table past limit bodies fault in
+    let P = λ (fault : ImageFault). KeepsAll c.args.journal.now c.args.bodies.now → IsCopyFault copy table past limit bodies fault in
     let granted : AreGranted copy table past bodies = subst (λ (b : List (List ℕ)). AreGranted copy table past b) (ap bodies_of c.deref-2.ensures.value) c.in_ok-grants.ensures.granted in
-    subst (IsImage copy P) (sym c.mount_no.ensures)
+    subst (IsOfCopyImage copy P) (sym c.mount_no.ensures)
     (write_refusal copy P c.in-Err.fault c.in-Err.ensures.fault
     (λ place is k. (granted, subst (λ made. IsFull limit bodies (made_where_none made bodies) place) c.in_ok-made.ensures (c.in-Err.ensures.full place (ap Err is) k))))
 
 pub returns-in_err-grants-clause-cause : goal.returns-in_err-grants-clause-cause
 returns-in_err-grants-clause-cause g c = record {
   later = omega arith;
-  failed = λ is. absurd (no_disk c.args.copy c.from_residual-in_err-grants.result c.in_err-grants.field-0.0 (IsFault c.args.copy c.args.table.now c.args.past.now 0 (bodies_of c.deref-2.result.now)) c.from_residual-in_err-grants.ensures.1 (c.in_err-grants.ensures.fault 0) is);
+  failed = λ is. absurd (no_disk c.args.copy c.from_residual-in_err-grants.result c.in_err-grants.field-0.0 (IsCopyFault c.args.copy c.args.table.now c.args.past.now 0 (bodies_of c.deref-2.result.now)) c.from_residual-in_err-grants.ensures.1 (c.in_err-grants.ensures.fault 0) is);
 }
 
 pub returns-in_err-made-clause-any_moment : goal.returns-in_err-made-clause-any_moment

@@ -8,7 +8,7 @@ use Rattle.qc_event.specs.Tables.{base_of}
 use Rattle.qc_journal.specs.Image.{HasAt, bodies_of}
 use Rattle.qc_journal.specs.Journal.{Keeps, disk_of, limit_of}
 use Rattle.qc_journal.proofs.Moments.{continues, grows_on}
-use Rattle.qc_site.specs.Image.{to_write, AreMountable}
+use Rattle.qc_site.specs.Image.{to_write, AreMountableAsCopy}
 use Rattle.qc_ledger.specs.Mounted.{HasSome, MountLeaves}
 use Rattle.qc_site.specs.Refusing.{IsCopyRefusal}
 use Rattle.qc_ledger.proofs.Mounts.{leaves_first, leaves_then, fine_told}
@@ -86,8 +86,8 @@ returns-in-Ok-begin-clause-mounts g c =
     record {
       found = found;
       granted = one.granted;
-      fine = fine_told (AreMountable c.args.copy c.args.table.now c.args.past.now c.args.limit found) (g.D.Disk.view c.args.disk).content found c.in-Ok.ensures.records
-          (λ some. subst (λ n. AreMountable c.args.copy c.args.table.now c.args.past.now n found) c.in-Ok.ensures.limit (one.fine (c.in-Ok.ensures.keeps some)));
+      fine = fine_told (AreMountableAsCopy c.args.copy c.args.table.now c.args.past.now c.args.limit found) (g.D.Disk.view c.args.disk).content found c.in-Ok.ensures.records
+          (λ some. subst (λ n. AreMountableAsCopy c.args.copy c.args.table.now c.args.past.now n found) c.in-Ok.ensures.limit (one.fine (c.in-Ok.ensures.keeps some)));
       all = one.bodies;
     }
 

@@ -3,7 +3,7 @@ use Rattle.std.proofs.Common.{◌∷◌, ◌∙◌, ap, sym, length, drop, List,
 use Rattle.qc_journal.specs.Image.{bodies_of}
 use Rattle.qc_event.proofs.Numbers.{nonzero}
 use Rattle.qc_ledger.proofs.Firsts.{with_first}
-use Rattle.qc_site.specs.Image.{IsFault}
+use Rattle.qc_site.specs.Image.{IsCopyFault}
 use Rattle.qc_site.specs.Reading.{IsFirstBad}
 use Rattle.qc_site.proofs.Faults.{first_fault, handed_on}
 use Rattle.qc_site.proofs.reading.grants_of.Goals as goal
@@ -15,6 +15,6 @@ returns-in_err-check_made-clause-fault c = λ limit.
     let past = c.args.past.now in
     let bodies = c.args.bodies.now in
     let v = c.index-bodies-0.result in
-    handed_on copy c.from_residual.result c.in_err-check_made.field-0.0 (IsFirstBad copy table past c.as_slice.result.now) (IsFault copy table past limit (bodies_of bodies))
+    handed_on copy c.from_residual.result c.in_err-check_made.field-0.0 (IsFirstBad copy table past c.as_slice.result.now) (IsCopyFault copy table past limit (bodies_of bodies))
     (first_fault copy table past limit c.as_slice.result.now (bodies_of bodies) (bodies_of (drop 1 bodies)) (with_first bodies v (nonzero (length bodies) (sym c.is_empty.ensures ∙ c.if-is_empty.false)) c.index-bodies-0.is ∙ ap (λ (b : List ℕ). b ∷ bodies_of (drop 1 bodies)) (sym c.as_slice.ensures.value)))
     c.from_residual.ensures.1 (c.in_err-check_made.ensures.fault past)

@@ -3,7 +3,7 @@ use Rattle.qc_event.specs.declared.event.Grant.{Grant}
 use Rattle.qc_event.specs.Grants.{MayGrant}
 use Rattle.qc_event.specs.History.{grants}
 use Rattle.qc_event.specs.Tables.{setting_of}
-use Rattle.qc_moss.specs.Follows.{Follows}
+use Rattle.qc_moss.specs.Follows.{TableFollows}
 use Rattle.qc_desk.specs.declared.view.View.{View}
 use Rattle.qc_desk.specs.Consulting.{IsTold}
 use Rattle.qc_desk.specs.declared.consult.Consulted.TheVariants.{Fresh}
@@ -13,7 +13,7 @@ use Rattle.rows_desk.proofs.Granting.{reserved_follows, reserved_start, follows_
 use Rattle.rows_desk.proofs.compared.grant_next.Goals as goal
 
 pub consult-requires-clause-follows : goal.consult-requires-clause-follows
-consult-requires-clause-follows g c = subst (λ n. Follows c.args.copy.now.seen (grants c.args.copy.now.seen n) c.args.locks.now) (sym c.in_ok-ask.ensures.asked.to_copy) c.requires.follows
+consult-requires-clause-follows g c = subst (λ n. TableFollows c.args.copy.now.seen (grants c.args.copy.now.seen n) c.args.locks.now) (sym c.in_ok-ask.ensures.asked.to_copy) c.requires.follows
 
 pub append-requires-clause-free : goal.append-requires-clause-free
 append-requires-clause-free g c =
@@ -38,7 +38,7 @@ returns-clause-follows g c =
     let record_is = ap (λ (x : Grant). x.rec) c.grant_of-grant.ensures ∙ c.in_ok-ask.ensures.asked.of_record in
     let start_is = reserved_start c.reserve.result c.consult.new.locks locks c.reserve.ensures.ok c.reserve.ensures.err ∙ c.consult.ensures.start ∙ c.requires.start in
     let within : grant.rec < length locks.held = omega (arith, record_is, c.grant.ensures.lists, ap length start_is) in
-    let follows = subst (λ n. Follows w.seen (grants w.seen n) c.consult.new.locks) c.in_ok-ask.ensures.asked.to_copy c.consult.ensures.follows in
-    subst (Follows v.seen (grants v.seen 0)) (sym c.grant.ensures.granted)
+    let follows = subst (λ n. TableFollows w.seen (grants w.seen n) c.consult.new.locks) c.in_ok-ask.ensures.asked.to_copy c.consult.ensures.follows in
+    subst (TableFollows v.seen (grants v.seen 0)) (sym c.grant.ensures.granted)
     (follows_granted s w v grant locks (ap (λ (x : View). x.number) told.1.0.1 ∙ c.requires.copy.1) within c.in_ok-append.ensures.ok c.known-2.ensures.legal
     (reserved_follows c.reserve.result w.seen (grants w.seen 0) c.consult.new.locks locks c.reserve.ensures.ok c.reserve.ensures.err follows))

@@ -7,7 +7,7 @@ use Rattle.qc_event.specs.Legal.{Legal}
 use Rattle.qc_event.specs.Standing.{IsUser}
 use Rattle.qc_event.specs.Tables.{setting_of}
 use Rattle.qc_event.proofs.Later.{earlier_legal}
-use Rattle.qc_moss.specs.Follows.{Follows}
+use Rattle.qc_moss.specs.Follows.{TableFollows}
 use Rattle.qc_desk.specs.Calling.{Entered}
 use Rattle.qc_desk.specs.Consulting.{IsTold}
 use Rattle.qc_desk.specs.declared.consult.Consulted.TheVariants.{Fresh}
@@ -20,7 +20,7 @@ use Rattle.rows_desk.proofs.Replying.{shown_on, granted_is, may_reply}
 use Rattle.rows_desk.proofs.overtaken.overtake.Goals as goal
 
 pub consult-requires-clause-follows : goal.consult-requires-clause-follows
-consult-requires-clause-follows g c = subst (λ n. Follows c.args.copy.now.seen (grants c.args.copy.now.seen n) c.args.locks.now) (sym c.in_ok-top.ensures.asked.to_copy) c.requires.follows
+consult-requires-clause-follows g c = subst (λ n. TableFollows c.args.copy.now.seen (grants c.args.copy.now.seen n) c.args.locks.now) (sym c.in_ok-top.ensures.asked.to_copy) c.requires.follows
 
 pub abort_by_other-requires-clause-top : goal.abort_by_other-requires-clause-top
 abort_by_other-requires-clause-top g c =

@@ -2,7 +2,7 @@ use Rattle.std.proofs.Common.{sym, subst, ap, ◌∙◌}
 use Rattle.qc_event.specs.Grants.{MayGrant}
 use Rattle.qc_event.specs.History.{grants}
 use Rattle.qc_event.specs.Tables.{setting_of}
-use Rattle.qc_moss.specs.Follows.{Follows}
+use Rattle.qc_moss.specs.Follows.{TableFollows}
 use Rattle.qc_desk.specs.Consulting.{IsTold}
 use Rattle.qc_desk.specs.declared.consult.Consulted.TheVariants.{Fresh}
 use Rattle.qc_desk.specs.Entries.{IsOlder}
@@ -10,7 +10,7 @@ use Rattle.rows_desk.proofs.OneCopy.{may_append}
 use Rattle.rows_desk.proofs.scene.grant_free.Goals as goal
 
 pub consult-requires-clause-follows : goal.consult-requires-clause-follows
-consult-requires-clause-follows g c = subst (λ n. Follows c.args.copy.now.seen (grants c.args.copy.now.seen n) c.args.locks.now) (sym c.in_ok-ask.ensures.asked.to_copy) c.requires.follows
+consult-requires-clause-follows g c = subst (λ n. TableFollows c.args.copy.now.seen (grants c.args.copy.now.seen n) c.args.locks.now) (sym c.in_ok-ask.ensures.asked.to_copy) c.requires.follows
 
 pub append-requires-clause-free : goal.append-requires-clause-free
 append-requires-clause-free g c =

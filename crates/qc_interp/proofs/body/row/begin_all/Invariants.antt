@@ -4,7 +4,7 @@ use Rattle.qc_event.specs.Standing.{Started, IsUser}
 use Rattle.qc_script.specs.Calls.{MeetsLink}
 use Rattle.qc_script.specs.Client.{ClientView}
 use Rattle.qc_script.specs.Steps.{numbered}
-use Rattle.qc_interp.specs.AtOnce.{Stands, stands, BeganInTurn}
+use Rattle.qc_interp.specs.AtOnce.{StandingBranch, stands, BeganInTurn}
 use Rattle.qc_interp.proofs.body.row.begin_all.Given as goal
 
 abbrev pub invariant-loop-body : goal.invariant-loop-body
@@ -17,5 +17,5 @@ invariant-loop-body g l =
       capacity : vec_capacity l.branches ≡ vec_capacity l.fn.branches;
       long : length l.branches.items ≡ l.body-index;
       bodies : map (λ b. numbered b.body.now) l.branches.items ≡ map numbered (take l.body-index l.bodies);
-      front : (rest : List Stands) (x : ClientView) → BeganInTurn (view l.tx) l.of rest x → BeganInTurn (view l.fn.tx) l.of (map (stands view) l.branches.items ++ rest) x;
+      front : (rest : List StandingBranch) (x : ClientView) → BeganInTurn (view l.tx) l.of rest x → BeganInTurn (view l.fn.tx) l.of (map (stands view) l.branches.items ++ rest) x;
     }

@@ -5,7 +5,7 @@ use Rattle.std.proofs.lemmas.List.{length-replicate}
 use Rattle.std.proofs.lemmas.Result.{err_from_is_err_and}
 use Rattle.qc_disk.specs.Disk.{written}
 use Rattle.qc_journal.specs.Image.{IsShort, EndsAt, behind_gate}
-use Rattle.qc_journal.specs.Journal.{disk_of, Stands}
+use Rattle.qc_journal.specs.Journal.{disk_of, ImageStands}
 use Rattle.qc_journal.proofs.Images.{length-behind_gate}
 use Rattle.qc_journal.proofs.Appends.{tells_on, behind, behind_lost, told_mid, gate, opened, any_moment, nothing_lost}
 use Rattle.qc_journal.proofs.Moments.{weakened}
@@ -50,7 +50,7 @@ returns-in_err-write_synced-2-clause-kept g c =
       bytes = then.0;
       told = then.1;
       each = λ image left.
-          let P : List ℕ → Type 0 = λ b. Stands old.place bodies (Some b) image in
+          let P : List ℕ → Type 0 = λ b. ImageStands old.place bodies (Some b) image in
           let here = g.met.D.Disk.reads_as_image old.disk in
           subst P (sym held) (gate old bodies body _ c.requires k c.missing-missing.ensures c.write_synced.new.disk _ fits here (c.deref.ensures.value ∙ c.in_ok-block.ensures) wrote.written wrote.durable image (c.write_synced-2.ensures.crash image left));
       whole = λ up. absurd up;

@@ -1,6 +1,6 @@
 use Rattle.std.proofs.Common.{[], sym, ap, arith, subst}
 use Rattle.std.specs.Prelude.{slice_index_or}
-use Rattle.qc_moss.specs.Follows.{Follows}
+use Rattle.qc_moss.specs.Follows.{TableFollows}
 use Rattle.qc_moss.specs.Locks.{Table}
 use Rattle.qc_moss.proofs.Tables.{starts}
 use Rattle.qc_looks.proofs.tables.Tables.new.Goals as goal
@@ -15,6 +15,6 @@ returns c =
           let fresh = c.loop-copy.invariant.each copy table at in
           record {
             start = ap (λ (t : Table). t.start) fresh;
-            follows = subst (Follows [] []) (sym fresh) (starts [] (slice_index_or c.args.base.now copy []));
+            follows = subst (TableFollows [] []) (sym fresh) (starts [] (slice_index_or c.args.base.now copy []));
           };
     }

@@ -3,7 +3,7 @@ use Rattle.std.specs.Prelude.{slice_set}
 use Rattle.std.proofs.lemmas.List.{map-set, get_or-map, get_or_default, length-map, get_or-set_same}
 use Rattle.qc_event.specs.Base.{no_tuple}
 use Rattle.qc_moss.specs.Locks.{Table, lists, start_of, base_of, holders_of, unfolded, folded_into, is_short, is_first_root}
-use Rattle.qc_moss.specs.Follows.{Follows, AreFolded, Becomes, HoldsStill}
+use Rattle.qc_moss.specs.Follows.{TableFollows, AreFolded, Becomes, HoldsStill}
 use Rattle.qc_moss.specs.declared.holder.Holder.{Holder}
 use Rattle.qc_moss.proofs.Lists.{list_of}
 use Rattle.qc_moss.proofs.Shortness.{unfolded_short, none_at_root}
@@ -25,8 +25,8 @@ returns-clause-follows g c = λ past given tells follows.
     (λ gs are. subst (λ b. AreFolded past gs (start_of view rec_) b c.fold_first.new.held.items) (sym (c.fold_first.ensures.base ∙ ap (λ t. folded_into t mid) (sym base)))
     (subst (λ h. AreFolded past gs (start_of view rec_) (folded_into (base_of view rec_) mid) h) (sym c.fold_first.ensures.rest)
     (settled_record past gs (start_of view rec_) (base_of view rec_) (holders_of view rec_) mid (subst (λ xs. Becomes past xs mid) (sym old) (c.settle_list.ensures.becomes past tells)) are)))
-    (subst (Follows past given) (sym c.self.view_is) follows) in
-    subst (λ held. Follows past given (let t : Table = record { start = inside.start.items; base = slice_set inside.base.items rec_ c.fold_first.new.base; held = held; reserved = inside.reserved } in t))
+    (subst (TableFollows past given) (sym c.self.view_is) follows) in
+    subst (λ held. TableFollows past given (let t : Table = record { start = inside.start.items; base = slice_set inside.base.items rec_ c.fold_first.new.base; held = held; reserved = inside.reserved } in t))
     (sym (map-set list_of inside.held.items rec_ c.fold_first.new.held)) written
 
 held_now : (all : List (Vec Holder Global)) (rec : ℕ) (list : Vec Holder Global) → rec < length all → get_or (lists (slice_set all rec list)) rec [] ≡ list.items

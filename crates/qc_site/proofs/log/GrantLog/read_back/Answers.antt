@@ -1,6 +1,6 @@
 use Rattle.std.proofs.Common.{refl}
 use Rattle.qc_journal.specs.Journal.{disk_of}
-use Rattle.qc_site.specs.Log.{journal_in}
+use Rattle.qc_site.specs.Log.{log_journal}
 use Rattle.qc_site.proofs.Logs.{failed_each, plain_each, read_each}
 use Rattle.qc_site.proofs.log.GrantLog.read_back.Goals as goal
 
@@ -12,7 +12,7 @@ returns-then-is_err-clause-kept g c =
 pub returns-then-is_err-clause-plain : goal.returns-then-is_err-clause-plain
 returns-then-is_err-clause-plain g c = λ before k.
     let r = c.read_back-answer in
-    plain_each c.args.self.now before c.args.given.now c.args.hand.now (g.met.D.Disk.reads_as_image (disk_of (journal_in c.args.self.now))) r.result k r.ensures.says
+    plain_each c.args.self.now before c.args.given.now c.args.hand.now (g.met.D.Disk.reads_as_image (disk_of (log_journal c.args.self.now))) r.result k r.ensures.says
 
 pub returns-else-is_err-clause-over : goal.returns-else-is_err-clause-over
 returns-else-is_err-clause-over g c =

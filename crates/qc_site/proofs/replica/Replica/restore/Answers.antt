@@ -5,7 +5,7 @@ use Rattle.qc_event.specs.declared.event.Grant.{Grant}
 use Rattle.qc_event.specs.History.{grants}
 use Rattle.qc_event.specs.Tables.{setting_of}
 use Rattle.qc_desk.proofs.Known.{known_again}
-use Rattle.qc_moss.specs.Follows.{Follows}
+use Rattle.qc_moss.specs.Follows.{TableFollows}
 use Rattle.qc_site.specs.Replica.{Standing}
 use Rattle.qc_site.proofs.Again.{grants_within}
 use Rattle.qc_site.proofs.Replicas.{kept_restored}
@@ -29,6 +29,6 @@ invariant_of-self g c =
     (ap (λ (x : Standing). x.hand) c.self.view_is ∙ c.requires.none)
     record {
       same_start = c.in_ok-locks.ensures.start ∙ c.in_ok-to_vec.ensures.items_if_clones_equal (λ x y is. is) ∙ c.deref.ensures.value;
-      follows = subst (λ gs. Follows past gs t) given (c.in_ok-locks.ensures.follows past);
+      follows = subst (λ gs. TableFollows past gs t) given (c.in_ok-locks.ensures.follows past);
     }
     c.self.invariant

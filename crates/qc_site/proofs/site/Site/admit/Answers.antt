@@ -6,7 +6,7 @@ use Rattle.qc_journal.specs.Journal.{disk_of}
 use Rattle.qc_desk.specs.declared.view.View.{View}
 use Rattle.qc_site.specs.AtDesk.{hand_entries, IsGranted}
 use Rattle.qc_site.specs.Calls.{empty_handed, site_state, SiteState}
-use Rattle.qc_site.specs.Log.{journal_in}
+use Rattle.qc_site.specs.Log.{log_journal}
 use Rattle.qc_site.proofs.Calls.{became_last, entered, looked}
 use Rattle.qc_site.proofs.Refusals.{short_not_down, short_says}
 use Rattle.qc_site.proofs.site.Site.admit.Goals as goal
@@ -37,7 +37,7 @@ pub returns-clause-became : goal.returns-clause-became
 returns-clause-became g c =
     let setting = setting_of g.N.Store.table g.N.Store.base in
     let mid = c.write.new.self in
-    let law = g.met.D.Disk.leaves_now (disk_of (journal_in mid.log)) in
+    let law = g.met.D.Disk.leaves_now (disk_of (log_journal mid.log)) in
     became_last setting g.row.C (Some c.args.ask.now) (empty_handed (site_state c.args.self.now)) (site_state mid) _ law c.write.ensures.became
     (entered setting g.row.C (site_state mid) _ law c.in_ok-write.ensures.journal refl refl c.in_ok-append.ensures.none c.in_ok-append.ensures.grants c.append.ensures.seen)
 
@@ -45,7 +45,7 @@ pub returns-in_err-append-clause-became : goal.returns-in_err-append-clause-beca
 returns-in_err-append-clause-became g c =
     let setting = setting_of g.N.Store.table g.N.Store.base in
     let mid = c.write.new.self in
-    let law = g.met.D.Disk.leaves_now (disk_of (journal_in mid.log)) in
+    let law = g.met.D.Disk.leaves_now (disk_of (log_journal mid.log)) in
     became_last setting g.row.C (Some c.args.ask.now) (empty_handed (site_state c.args.self.now)) (site_state mid) _ law c.write.ensures.became
     (looked setting g.row.C (site_state mid) _ law refl refl c.in_err-append.ensures.kept c.in_err-append.ensures.err.same_grants c.append.ensures.seen)
 

@@ -7,7 +7,7 @@ use Rattle.qc_ledger.proofs.Passes.{sees_on}
 use Rattle.qc_desk.specs.declared.consult.Consulted.TheVariants.{Fresh}
 use Rattle.qc_site.specs.AtDesk.{hand_after, told_entries}
 use Rattle.qc_site.specs.Calls.{empty_handed, site_state, SiteState}
-use Rattle.qc_site.specs.Log.{journal_in}
+use Rattle.qc_site.specs.Log.{log_journal}
 use Rattle.qc_site.proofs.Again.{err_or_again, fresh_or_again, one_tuple}
 use Rattle.qc_site.proofs.Calls.{asks, became_on, looked, serves_on}
 use Rattle.qc_site.proofs.Refusals.{same_down, short_says}
@@ -23,7 +23,7 @@ returns-in_err-told-clause-refused g c =
 pub returns-in_err-told-clause-became : goal.returns-in_err-told-clause-became
 returns-in_err-told-clause-became g c =
     let setting = setting_of g.N.Store.table g.N.Store.base in
-    let law = g.met.D.Disk.leaves_now (disk_of (journal_in c.args.self.now.log)) in
+    let law = g.met.D.Disk.leaves_now (disk_of (log_journal c.args.self.now.log)) in
     asks setting g.row.C c.args.ask.now _ _ (looked setting g.row.C (site_state c.args.self.now) _ law refl refl (c.in_err-told.ensures.none ∙ sym c.requires.ready.none) c.consult.ensures.grants c.consult.ensures.seen)
 
 pub returns-in_err-told-clause-again : goal.returns-in_err-told-clause-again
@@ -51,7 +51,7 @@ returns-in-Again-clause-again g c = λ tuple told. (
 pub returns-in-Again-clause-became : goal.returns-in-Again-clause-became
 returns-in-Again-clause-became g c =
     let setting = setting_of g.N.Store.table g.N.Store.base in
-    let law = g.met.D.Disk.leaves_now (disk_of (journal_in c.args.self.now.log)) in
+    let law = g.met.D.Disk.leaves_now (disk_of (log_journal c.args.self.now.log)) in
     let none = c.in_ok-told.ensures.hand ∙ ap (hand_after c.args.ask.now) c.in-Again.is in
     asks setting g.row.C c.args.ask.now _ _ (looked setting g.row.C (site_state c.args.self.now) _ law refl refl (none ∙ sym c.requires.ready.none) c.consult.ensures.grants c.consult.ensures.seen)
 
@@ -75,7 +75,7 @@ returns-in_ok-admit-in-Free-clause-became g c =
     let setting = setting_of g.N.Store.table g.N.Store.base in
     let old = site_state c.args.self.now in
     let told : SiteState g.D.Disk = record { log = old.log; replica = c.consult.new.self; strange = old.strange } in
-    let law = g.met.D.Disk.leaves_now (disk_of (journal_in old.log)) in
+    let law = g.met.D.Disk.leaves_now (disk_of (log_journal old.log)) in
     became_on setting g.row.C (Some c.args.ask.now) old (empty_handed told) (site_state c.admit.new.self) law
     (looked setting g.row.C old (empty_handed told) law refl refl (sym c.requires.ready.none) c.consult.ensures.grants c.consult.ensures.seen) c.admit.ensures.became
 
@@ -84,7 +84,7 @@ returns-in_err-admit-in-Free-clause-became g c =
     let setting = setting_of g.N.Store.table g.N.Store.base in
     let old = site_state c.args.self.now in
     let told : SiteState g.D.Disk = record { log = old.log; replica = c.consult.new.self; strange = old.strange } in
-    let law = g.met.D.Disk.leaves_now (disk_of (journal_in old.log)) in
+    let law = g.met.D.Disk.leaves_now (disk_of (log_journal old.log)) in
     became_on setting g.row.C (Some c.args.ask.now) old (empty_handed told) (site_state c.admit.new.self) law
     (looked setting g.row.C old (empty_handed told) law refl refl (sym c.requires.ready.none) c.consult.ensures.grants c.consult.ensures.seen) c.admit.ensures.became
 
@@ -118,7 +118,7 @@ returns-in-Blocked-clause-served g c =
 pub returns-in-Blocked-clause-became : goal.returns-in-Blocked-clause-became
 returns-in-Blocked-clause-became g c =
     let setting = setting_of g.N.Store.table g.N.Store.base in
-    let law = g.met.D.Disk.leaves_now (disk_of (journal_in c.args.self.now.log)) in
+    let law = g.met.D.Disk.leaves_now (disk_of (log_journal c.args.self.now.log)) in
     let none = c.in_ok-told.ensures.hand ∙ ap (hand_after c.args.ask.now) (c.in-Fresh.is ∙ ap (λ x. Fresh x) c.in-Blocked.is) in
     asks setting g.row.C c.args.ask.now _ _ (looked setting g.row.C (site_state c.args.self.now) _ law refl refl (none ∙ sym c.requires.ready.none) c.consult.ensures.grants c.consult.ensures.seen)
 
@@ -138,7 +138,7 @@ returns-in-Dead-clause-served g c =
 pub returns-in-Dead-clause-became : goal.returns-in-Dead-clause-became
 returns-in-Dead-clause-became g c =
     let setting = setting_of g.N.Store.table g.N.Store.base in
-    let law = g.met.D.Disk.leaves_now (disk_of (journal_in c.args.self.now.log)) in
+    let law = g.met.D.Disk.leaves_now (disk_of (log_journal c.args.self.now.log)) in
     let none = c.in_ok-told.ensures.hand ∙ ap (hand_after c.args.ask.now) (c.in-Fresh.is ∙ ap (λ x. Fresh x) c.in-Dead.is) in
     asks setting g.row.C c.args.ask.now _ _ (looked setting g.row.C (site_state c.args.self.now) _ law refl refl (none ∙ sym c.requires.ready.none) c.consult.ensures.grants c.consult.ensures.seen)
 

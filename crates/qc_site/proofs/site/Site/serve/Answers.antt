@@ -5,7 +5,7 @@ use Rattle.qc_event.specs.Tables.{setting_of}
 use Rattle.qc_journal.specs.Journal.{disk_of}
 use Rattle.qc_ledger.proofs.Passes.{sees_on}
 use Rattle.qc_site.specs.Calls.{site_state, ServeSays}
-use Rattle.qc_site.specs.Log.{journal_in}
+use Rattle.qc_site.specs.Log.{log_journal}
 use Rattle.qc_site.specs.Sites.{IsFullFor}
 use Rattle.qc_site.proofs.Calls.{became_last}
 use Rattle.qc_site.proofs.site.Site.serve.Goals as goal
@@ -25,7 +25,7 @@ returns-in_ok-unable-in-Err-Down-clause-served g c =
 pub returns-in_ok-unable-in-Err-Down-clause-became : goal.returns-in_ok-unable-in-Err-Down-clause-became
 returns-in_ok-unable-in-Err-Down-clause-became g c =
     let tried = c.try_serve.new.self in
-    became_last (setting_of g.N.Store.table g.N.Store.base) g.row.C (Some c.args.ask.now) (site_state c.args.self.now) (site_state tried) (site_state c.unable.new.self) (g.met.D.Disk.leaves_now (disk_of (journal_in tried.log))) c.try_serve.ensures.became c.unable.ensures.became
+    became_last (setting_of g.N.Store.table g.N.Store.base) g.row.C (Some c.args.ask.now) (site_state c.args.self.now) (site_state tried) (site_state c.unable.new.self) (g.met.D.Disk.leaves_now (disk_of (log_journal tried.log))) c.try_serve.ensures.became c.unable.ensures.became
 
 pub returns-in_ok-unable-in-Err-Down-clause-seer : goal.returns-in_ok-unable-in-Err-Down-clause-seer
 returns-in_ok-unable-in-Err-Down-clause-seer g c = sees_on c.args.seer.now c.try_serve.new.seer c.unable.new.seer c.try_serve.ensures.seer c.unable.ensures.seer
@@ -33,7 +33,7 @@ returns-in_ok-unable-in-Err-Down-clause-seer g c = sees_on c.args.seer.now c.try
 pub returns-in_err-unable-in-Err-Down-clause-became : goal.returns-in_err-unable-in-Err-Down-clause-became
 returns-in_err-unable-in-Err-Down-clause-became g c =
     let tried = c.try_serve.new.self in
-    became_last (setting_of g.N.Store.table g.N.Store.base) g.row.C (Some c.args.ask.now) (site_state c.args.self.now) (site_state tried) (site_state c.unable.new.self) (g.met.D.Disk.leaves_now (disk_of (journal_in tried.log))) c.try_serve.ensures.became c.unable.ensures.became
+    became_last (setting_of g.N.Store.table g.N.Store.base) g.row.C (Some c.args.ask.now) (site_state c.args.self.now) (site_state tried) (site_state c.unable.new.self) (g.met.D.Disk.leaves_now (disk_of (log_journal tried.log))) c.try_serve.ensures.became c.unable.ensures.became
 
 pub returns-in_err-unable-in-Err-Down-clause-seer : goal.returns-in_err-unable-in-Err-Down-clause-seer
 returns-in_err-unable-in-Err-Down-clause-seer g c = sees_on c.args.seer.now c.try_serve.new.seer c.unable.new.seer c.try_serve.ensures.seer c.unable.ensures.seer
@@ -56,7 +56,7 @@ returns-in_ok-unable-in-Err-Full-clause-served g c =
 pub returns-in_ok-unable-in-Err-Full-clause-became : goal.returns-in_ok-unable-in-Err-Full-clause-became
 returns-in_ok-unable-in-Err-Full-clause-became g c =
     let tried = c.try_serve.new.self in
-    became_last (setting_of g.N.Store.table g.N.Store.base) g.row.C (Some c.args.ask.now) (site_state c.args.self.now) (site_state tried) (site_state c.unable-in-Err-Full.new.self) (g.met.D.Disk.leaves_now (disk_of (journal_in tried.log))) c.try_serve.ensures.became c.unable-in-Err-Full.ensures.became
+    became_last (setting_of g.N.Store.table g.N.Store.base) g.row.C (Some c.args.ask.now) (site_state c.args.self.now) (site_state tried) (site_state c.unable-in-Err-Full.new.self) (g.met.D.Disk.leaves_now (disk_of (log_journal tried.log))) c.try_serve.ensures.became c.unable-in-Err-Full.ensures.became
 
 pub returns-in_ok-unable-in-Err-Full-clause-seer : goal.returns-in_ok-unable-in-Err-Full-clause-seer
 returns-in_ok-unable-in-Err-Full-clause-seer g c = sees_on c.args.seer.now c.try_serve.new.seer c.unable-in-Err-Full.new.seer c.try_serve.ensures.seer c.unable-in-Err-Full.ensures.seer
@@ -64,7 +64,7 @@ returns-in_ok-unable-in-Err-Full-clause-seer g c = sees_on c.args.seer.now c.try
 pub returns-in_err-unable-in-Err-Full-clause-became : goal.returns-in_err-unable-in-Err-Full-clause-became
 returns-in_err-unable-in-Err-Full-clause-became g c =
     let tried = c.try_serve.new.self in
-    became_last (setting_of g.N.Store.table g.N.Store.base) g.row.C (Some c.args.ask.now) (site_state c.args.self.now) (site_state tried) (site_state c.unable-in-Err-Full.new.self) (g.met.D.Disk.leaves_now (disk_of (journal_in tried.log))) c.try_serve.ensures.became c.unable-in-Err-Full.ensures.became
+    became_last (setting_of g.N.Store.table g.N.Store.base) g.row.C (Some c.args.ask.now) (site_state c.args.self.now) (site_state tried) (site_state c.unable-in-Err-Full.new.self) (g.met.D.Disk.leaves_now (disk_of (log_journal tried.log))) c.try_serve.ensures.became c.unable-in-Err-Full.ensures.became
 
 pub returns-in_err-unable-in-Err-Full-clause-seer : goal.returns-in_err-unable-in-Err-Full-clause-seer
 returns-in_err-unable-in-Err-Full-clause-seer g c = sees_on c.args.seer.now c.try_serve.new.seer c.unable-in-Err-Full.new.seer c.try_serve.ensures.seer c.unable-in-Err-Full.ensures.seer
@@ -84,7 +84,7 @@ returns-in_ok-unable-in-Err-Strange-clause-served g c =
 pub returns-in_ok-unable-in-Err-Strange-clause-became : goal.returns-in_ok-unable-in-Err-Strange-clause-became
 returns-in_ok-unable-in-Err-Strange-clause-became g c =
     let tried = c.try_serve.new.self in
-    became_last (setting_of g.N.Store.table g.N.Store.base) g.row.C (Some c.args.ask.now) (site_state c.args.self.now) (site_state tried) (site_state c.unable-in-Err-Strange.new.self) (g.met.D.Disk.leaves_now (disk_of (journal_in tried.log))) c.try_serve.ensures.became c.unable-in-Err-Strange.ensures.became
+    became_last (setting_of g.N.Store.table g.N.Store.base) g.row.C (Some c.args.ask.now) (site_state c.args.self.now) (site_state tried) (site_state c.unable-in-Err-Strange.new.self) (g.met.D.Disk.leaves_now (disk_of (log_journal tried.log))) c.try_serve.ensures.became c.unable-in-Err-Strange.ensures.became
 
 pub returns-in_ok-unable-in-Err-Strange-clause-seer : goal.returns-in_ok-unable-in-Err-Strange-clause-seer
 returns-in_ok-unable-in-Err-Strange-clause-seer g c = sees_on c.args.seer.now c.try_serve.new.seer c.unable-in-Err-Strange.new.seer c.try_serve.ensures.seer c.unable-in-Err-Strange.ensures.seer
@@ -92,7 +92,7 @@ returns-in_ok-unable-in-Err-Strange-clause-seer g c = sees_on c.args.seer.now c.
 pub returns-in_err-unable-in-Err-Strange-clause-became : goal.returns-in_err-unable-in-Err-Strange-clause-became
 returns-in_err-unable-in-Err-Strange-clause-became g c =
     let tried = c.try_serve.new.self in
-    became_last (setting_of g.N.Store.table g.N.Store.base) g.row.C (Some c.args.ask.now) (site_state c.args.self.now) (site_state tried) (site_state c.unable-in-Err-Strange.new.self) (g.met.D.Disk.leaves_now (disk_of (journal_in tried.log))) c.try_serve.ensures.became c.unable-in-Err-Strange.ensures.became
+    became_last (setting_of g.N.Store.table g.N.Store.base) g.row.C (Some c.args.ask.now) (site_state c.args.self.now) (site_state tried) (site_state c.unable-in-Err-Strange.new.self) (g.met.D.Disk.leaves_now (disk_of (log_journal tried.log))) c.try_serve.ensures.became c.unable-in-Err-Strange.ensures.became
 
 pub returns-in_err-unable-in-Err-Strange-clause-seer : goal.returns-in_err-unable-in-Err-Strange-clause-seer
 returns-in_err-unable-in-Err-Strange-clause-seer g c = sees_on c.args.seer.now c.try_serve.new.seer c.unable-in-Err-Strange.new.seer c.try_serve.ensures.seer c.unable-in-Err-Strange.ensures.seer

@@ -6,7 +6,7 @@ use Rattle.qc_journal.specs.Journal.{disk_of}
 use Rattle.qc_desk.proofs.Consulting.{asked_later}
 use Rattle.qc_site.specs.AtDesk.{IsGranted}
 use Rattle.qc_site.specs.Calls.{site_state}
-use Rattle.qc_site.specs.Log.{journal_in}
+use Rattle.qc_site.specs.Log.{log_journal}
 use Rattle.qc_site.specs.Replica.{Standing}
 use Rattle.qc_site.proofs.Calls.{asks, became_on, served_on}
 use Rattle.qc_site.proofs.Logs.{cause_on}
@@ -45,7 +45,7 @@ returns-clause-again g c = λ tuple ready told.
 pub returns-clause-became : goal.returns-clause-became
 returns-clause-became g c =
     became_on (setting_of g.N.Store.table g.N.Store.base) g.row.C (Some c.args.ask.now) (site_state c.args.self.now) (site_state c.rise.new.self) (site_state c.grant.new.self)
-    (g.met.D.Disk.leaves_now (disk_of (journal_in c.rise.new.self.log))) c.rise.ensures.became c.grant.ensures.became
+    (g.met.D.Disk.leaves_now (disk_of (log_journal c.rise.new.self.log))) c.rise.ensures.became c.grant.ensures.became
 
 pub returns-clause-asked : goal.returns-clause-asked
 returns-clause-asked g c = asked_later c.args.seer.now.seen c.grant.new.seer.seen c.args.ask.now c.grant.ensures.seer.older c.requires.asked

@@ -1,10 +1,10 @@
 use Rattle.std.proofs.Common.{refl}
 use Rattle.qc_event.specs.Tables.{setting_of}
 use Rattle.qc_journal.specs.Journal.{disk_of}
-use Rattle.qc_site.specs.Log.{journal_in}
+use Rattle.qc_site.specs.Log.{log_journal}
 use Rattle.qc_site.proofs.Calls.{looked}
 use Rattle.qc_site.proofs.site.Site.unable.Goals as goal
 
 pub returns-clause-became : goal.returns-clause-became
 returns-clause-became g c =
-    looked (setting_of g.N.Store.table g.N.Store.base) g.row.C _ _ (g.met.D.Disk.leaves_now (disk_of (journal_in c.args.self.now.log))) refl refl c.unable.ensures.hand c.unable.ensures.grants c.unable.ensures.seen
+    looked (setting_of g.N.Store.table g.N.Store.base) g.row.C _ _ (g.met.D.Disk.leaves_now (disk_of (log_journal c.args.self.now.log))) refl refl c.unable.ensures.hand c.unable.ensures.grants c.unable.ensures.seen

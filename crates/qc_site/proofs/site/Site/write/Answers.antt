@@ -8,7 +8,7 @@ use Rattle.qc_journal.specs.Journal.{disk_of}
 use Rattle.qc_ledger.proofs.Logging.{up_by}
 use Rattle.qc_desk.specs.declared.view.View.{View}
 use Rattle.qc_site.specs.Calls.{site_state, SiteState}
-use Rattle.qc_site.specs.Log.{journal_in}
+use Rattle.qc_site.specs.Log.{log_journal}
 use Rattle.qc_site.proofs.Calls.{wrote}
 use Rattle.qc_site.proofs.Logs.{same_over}
 use Rattle.qc_site.proofs.Refusals.{down_is_disk, write_says}
@@ -27,19 +27,19 @@ invariant_of-self-in-Err g c = record {
 pub returns-in-Ok-clause-became : goal.returns-in-Ok-clause-became
 returns-in-Ok-clause-became g c =
     let old = c.args.self.now in
-    let disk = disk_of (journal_in old.log) in
+    let disk = disk_of (log_journal old.log) in
     wrote (setting_of g.N.Store.table g.N.Store.base) g.row.C c.args.ask.now c.args.tuple.now c.grant_of.result c.grant_of.ensures (site_state old) _
-    (g.met.D.Disk.reads_as_image disk) (up_by (journal_in old.log).state (old.journal c.requires.up)) old.copies (subst (λ o. IfSome o (MayGrant (setting_of g.N.Store.table g.N.Store.base) old.replica.pass.seen (copy_seat g.row.C) g.row.C)) (c.requires.hand ∙ ap (λ x. Some x) (sym c.grant_of.ensures)) c.requires.may)
+    (g.met.D.Disk.reads_as_image disk) (up_by (log_journal old.log).state (old.journal c.requires.up)) old.copies (subst (λ o. IfSome o (MayGrant (setting_of g.N.Store.table g.N.Store.base) old.replica.pass.seen (copy_seat g.row.C) g.row.C)) (c.requires.hand ∙ ap (λ x. Some x) (sym c.grant_of.ensures)) c.requires.may)
     c.write.ensures.any_moment c.write.ensures.grows refl refl c.write.ensures.limit
     (λ before k. same_over before c.write.new.self _ _ _ _ refl (c.requires.hand ∙ ap (λ x. Some x) (sym c.grant_of.ensures)) (c.in-Ok.ensures.over before _ k))
 
 pub returns-in-Err-clause-became : goal.returns-in-Err-clause-became
 returns-in-Err-clause-became g c =
     let old = c.args.self.now in
-    let disk = disk_of (journal_in old.log) in
+    let disk = disk_of (log_journal old.log) in
     let same = ap (λ (v : View). grants v.seen g.row.C) c.fall.ensures.pass in
     wrote (setting_of g.N.Store.table g.N.Store.base) g.row.C c.args.ask.now c.args.tuple.now c.grant_of.result c.grant_of.ensures (site_state old) _
-    (g.met.D.Disk.reads_as_image disk) (up_by (journal_in old.log).state (old.journal c.requires.up)) old.copies (subst (λ o. IfSome o (MayGrant (setting_of g.N.Store.table g.N.Store.base) old.replica.pass.seen (copy_seat g.row.C) g.row.C)) (c.requires.hand ∙ ap (λ x. Some x) (sym c.grant_of.ensures)) c.requires.may)
+    (g.met.D.Disk.reads_as_image disk) (up_by (log_journal old.log).state (old.journal c.requires.up)) old.copies (subst (λ o. IfSome o (MayGrant (setting_of g.N.Store.table g.N.Store.base) old.replica.pass.seen (copy_seat g.row.C) g.row.C)) (c.requires.hand ∙ ap (λ x. Some x) (sym c.grant_of.ensures)) c.requires.may)
     c.write.ensures.any_moment c.write.ensures.grows refl c.fall.ensures.pass c.write.ensures.limit
     (λ before k. elim c.fall.ensures.either [
       | inl u ↦ same_over before c.write.new.self _ _ None _ same u.1 (c.in-Err.ensures.idle u.0 before _ k)
@@ -57,4 +57,4 @@ returns-in-Err-clause-refused g c =
     let old = c.args.self.now in
     let new : SiteState g.D.Disk = record { log = c.write.new.self; replica = c.fall.new.replica; strange = is_some old.strange } in
     write_says old.log new old.replica c.in-Err.fault c.of_fault.result c.args.ask.now c.args.tuple.now c.grant_of.result c.in-Err.ensures.left c.of_fault.ensures
-    (up_by (journal_in old.log).state (old.journal c.requires.up)) c.requires.up c.fall.ensures.either (λ place is. c.in-Err.ensures.full place (ap (λ x. Err x) is)) c.write.ensures.copies c.grant_of.ensures
+    (up_by (log_journal old.log).state (old.journal c.requires.up)) c.requires.up c.fall.ensures.either (λ place is. c.in-Err.ensures.full place (ap (λ x. Err x) is)) c.write.ensures.copies c.grant_of.ensures

@@ -9,7 +9,7 @@ use Rattle.qc_journal.specs.Journal.{disk_of}
 use Rattle.qc_desk.specs.Entries.{IsOlder}
 use Rattle.qc_site.specs.Answers.{HasAnswered}
 use Rattle.qc_site.specs.Calls.{AnswerRests, site_state}
-use Rattle.qc_site.specs.Log.{journal_in}
+use Rattle.qc_site.specs.Log.{log_journal}
 use Rattle.qc_site.proofs.Calls.{served_enters}
 use Rattle.qc_site.proofs.Since.{grants_on}
 use Rattle.qc_system.specs.Grown.{LeftAlike}
@@ -26,7 +26,7 @@ invariant_of-self g c = record {
       let first = g.N.Mounting.first (g.row.C + 1) in (
         c.serve.ensures.became.kept before (k told).0,
         record {
-          began = left_on first (disk_of (journal_in c.args.self.now.site.log)) (disk_of (journal_in c.serve.new.self.log)) (λ d. g.D.Disk.view d.disk.value) (c.serve.ensures.became.moments before (k told).0).1.earlier (k told).1.grown.later (k told).1.began;
+          began = left_on first (disk_of (log_journal c.args.self.now.site.log)) (disk_of (log_journal c.serve.new.self.log)) (λ d. g.D.Disk.view d.disk.value) (c.serve.ensures.became.moments before (k told).0).1.earlier (k told).1.grown.later (k told).1.began;
           grown = c.serve.ensures.became.grown before first.moment (k told).0 (k told).1.grown;
         },
       ));
@@ -42,10 +42,10 @@ invariant_of-self-in-Err g c =
       keeps = ∥∥₁_map c.args.self.now.keeps (λ k told. (
         c.show.ensures.became.kept before (c.serve.ensures.became.kept before (k told).0),
         record {
-          began = subst (λ l. LeftAlike first (disk_in (journal_in l))) (sym c.show.ensures.log)
-              (left_on first (disk_of (journal_in c.args.self.now.site.log)) (disk_of (journal_in c.serve.new.self.log)) (λ d. g.D.Disk.view d.disk.value) (c.serve.ensures.became.moments before (k told).0).1.earlier (k told).1.grown.later (k told).1.began);
+          began = subst (λ l. LeftAlike first (disk_in (log_journal l))) (sym c.show.ensures.log)
+              (left_on first (disk_of (log_journal c.args.self.now.site.log)) (disk_of (log_journal c.serve.new.self.log)) (λ d. g.D.Disk.view d.disk.value) (c.serve.ensures.became.moments before (k told).0).1.earlier (k told).1.grown.later (k told).1.began);
           grown = grants_on (setting_of g.N.Store.table g.N.Store.base) g.row.C before first.moment c.serve.new.self.log c.show.new.self.log c.serve.new.self.replica.pass.seen c.show.new.self.replica.pass.seen
-              (ap journal_in c.show.ensures.log) c.show.ensures.looks.older (c.serve.ensures.became.grown before first.moment (k told).0 (k told).1.grown);
+              (ap log_journal c.show.ensures.log) c.show.ensures.looks.older (c.serve.ensures.became.grown before first.moment (k told).0 (k told).1.grown);
         },
       ));
       pays = subst (λ l. Pays first.faults (downs c.show.new.self.replica.pass.mine) (faults_of l.journal)) (sym c.show.ensures.log)
