@@ -70,7 +70,7 @@ pub(crate) fn image_no(fault: ImageFault) -> LedgerNo
 }
 
 /// What a fault of the journal is to a mounting.
-pub(crate) fn ledger_mount_no(fault: Fault) -> LedgerNo
+pub(crate) fn mount_no(fault: Fault) -> LedgerNo
     ensures { result ≡ ledger_mount_no fault }
 {
     match fault {

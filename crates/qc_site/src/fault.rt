@@ -63,7 +63,7 @@ pub(crate) fn image_no(copy: u8, fault: ImageFault) -> SiteNo
 }
 
 /// What a fault of the journal is to the mounting of a copy.
-pub(crate) fn copy_mount_no(copy: u8, fault: Fault) -> SiteNo
+pub(crate) fn mount_no(copy: u8, fault: Fault) -> SiteNo
     requires { copy < 16 }
     ensures { result ≡ copy_mount_no copy fault }
 {
