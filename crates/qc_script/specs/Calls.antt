@@ -13,10 +13,12 @@ use Rattle.qc_event.specs.declared.event.How.TheVariants.{Commit, Abort}
 use Rattle.qc_event.specs.declared.event.Kind.{Kind}
 use Rattle.qc_event.specs.declared.event.Kind.TheVariants as kind
 use Rattle.qc_event.specs.declared.short.Short.{Short}
-use Rattle.qc_event.specs.Dead.{outcome, is_committed, is_aborted}
+use Rattle.qc_event.specs.declared.event.Why.TheVariants as reason
+use Rattle.qc_event.specs.Dead.{dead, outcome, is_committed, is_aborted, is_live}
 use Rattle.qc_event.specs.History.{Past, Name, limit, same, start, end, is_ready, is_child}
 use Rattle.qc_event.specs.Seats.{is_client}
-use Rattle.qc_event.specs.Standing.{Started, IsAbort, IsUser}
+use Rattle.qc_event.specs.Requests.{was_unable}
+use Rattle.qc_event.specs.Standing.{Started, IsAbort, IsUser, open_child}
 use Rattle.qc_event.specs.Users.{UserCause}
 use Rattle.qc_event.specs.Wants.{IsWant}
 use Rattle.qc_names.specs.Name as name
@@ -88,6 +90,35 @@ Refuses seen of (tx_no.ChildrenOpen child) = IsTrue (is_child of child) × (is_s
 Refuses seen of tx_no.Ready = is_ready seen of ≡ true
 Refuses seen of (tx_no.Short short) = IsWant seen short
 Refuses seen of _ = ⊥
+
+-- nothing is against a child of a name
+abbrev pub TakesChildren : Past → Name → Type 0
+TakesChildren seen of = (is_committed (outcome seen of) ≡ false) × (dead seen of ≡ None) × (is_ready seen of ≡ false)
+
+-- Why a child does not begin, the first of these that holds: its parent has committed; an ancestor, the parent among them,
+-- is aborted, of which this is the shortest; the parent is ready; memory or room is wanting.
+abbrev pub RefusesChild : Past → Name → TxNo → Type 0
+RefusesChild seen of tx_no.Ended = is_committed (outcome seen of) ≡ true
+RefusesChild seen of (tx_no.Orphan a) = (is_committed (outcome seen of) ≡ false) × (dead seen of ≡ Some a)
+RefusesChild seen of tx_no.Ready = (is_committed (outcome seen of) ≡ false) × (dead seen of ≡ None) × (is_ready seen of ≡ true)
+RefusesChild seen of (tx_no.Short short) = ((of ≡ []) ⊎ TakesChildren seen of) × IsWant seen short
+RefusesChild seen of _ = ⊥
+
+-- nothing but want of memory or room is against a commit
+abbrev pub CanCommit : Past → Name → Type 0
+CanCommit seen of = (is_live (outcome seen of) ≡ true) × (dead seen of ≡ None) × (open_child seen of ≡ None)
+
+-- Why a transaction does not commit, the first of these that holds: it has ended; an ancestor is aborted, of which this is
+-- the shortest; it is ready; a child is open, of which this is the first; the ledger told that it was unable to log the top;
+-- memory or room is wanting, before a top is ready or after.
+abbrev pub RefusesCommit : Past → Name → TxNo → Type 0
+RefusesCommit seen of tx_no.Ended = is_live (outcome seen of) ≡ false
+RefusesCommit seen of (tx_no.Orphan a) = (is_live (outcome seen of) ≡ true) × (dead seen of ≡ Some a)
+RefusesCommit seen of tx_no.Ready = (is_live (outcome seen of) ≡ true) × (dead seen of ≡ None) × (is_ready seen of ≡ true)
+RefusesCommit seen of (tx_no.ChildrenOpen child) = (is_live (outcome seen of) ≡ true) × (dead seen of ≡ None) × (open_child seen of ≡ Some child)
+RefusesCommit seen of tx_no.Ledger = IsTrue (was_unable seen of reason.Down) ⊎ IsTrue (was_unable seen of reason.Full)
+RefusesCommit seen of (tx_no.Short short) = ((is_ready seen of ≡ true) ⊎ CanCommit seen of) × IsWant seen short
+RefusesCommit seen of _ = ⊥
 
 -- A call to begin a child, or a manager, was refused: nothing was made.
 abbrev pub WasRefused : Client → Name → Past → Past → TxNo → Type 0

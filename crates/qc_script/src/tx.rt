@@ -63,7 +63,7 @@ pub trait Tx: Sized {
     ghost use Rattle.qc_event.specs.History.{is_child};
     ghost use Rattle.qc_event.specs.Standing.{Started, IsUser};
     ghost use Rattle.qc_script.specs.Numbers.{Numbers};
-    ghost use Rattle.qc_script.specs.Calls.{Began, Answers, Fails, Aborts, IsGrounded, IsForChild, WasRefused, NotAborted, Committed, NotCommitted, MeetsLink, IsOfSession, Marks, MarksNone, Branched, Showed, Merged};
+    ghost use Rattle.qc_script.specs.Calls.{Began, Answers, Fails, Aborts, IsGrounded, IsForChild, WasRefused, RefusesChild, RefusesCommit, NotAborted, Committed, NotCommitted, MeetsLink, IsOfSession, Marks, MarksNone, Branched, Showed, Merged};
     ghost use Rattle.qc_script.specs.Client.{Made, ClientView, has_marked_itself};
     ghost use Rattle.qc_script.specs.Managers.{manager_for, IsAnswerTo};
     ghost use Rattle.qc_script.specs.Plan.{CopyFits, KindFits};
@@ -84,7 +84,8 @@ pub trait Tx: Sized {
         ensures number { IfOk result (λ _. Numbers
             (view self.old).client (view self.old).seen (view self.new).seen) }
         ensures err { IfErr result (WasRefused
-            (view self.old).client parent.now (view self.old).seen (view self.new).seen) };
+            (view self.old).client parent.now (view self.old).seen (view self.new).seen) }
+        ensures refused { IfErr result (RefusesChild (view self.new).seen parent.now) };
 
     /// Has a manager run for a transaction, and answers what it committed with.
     fn manage(&mut self, of: &Name, what: &Managed) -> Result<Answer, TxNo>
@@ -122,7 +123,8 @@ pub trait Tx: Sized {
         ensures ok { OnOk result (Committed
             (view self.old).client of.now (view self.old).seen (view self.new).seen) }
         ensures err { IfErr result (NotCommitted
-            (view self.old).client of.now (view self.old).seen (view self.new).seen) };
+            (view self.old).client of.now (view self.old).seen (view self.new).seen) }
+        ensures refused { IfErr result (RefusesCommit (view self.new).seen of.now) };
 
     /// Whether a mark of its client's session, by a transaction whose top has at least the number of this one's, is seen:
     /// one that licenses that this one is killed. Such a mark of the client's own it never misses; that another made it

@@ -8,6 +8,7 @@ pub mod Going
 pub mod Calling
 pub mod Closed
 pub mod Committing
+pub mod Exact
 pub mod Fallen
 pub mod Followed
 pub mod High

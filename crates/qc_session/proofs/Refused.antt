@@ -88,21 +88,21 @@ committed_says past n why is = by_test (is_committed (outcome past n)) refl is
     by_test true h is = (sym (same_Some desk.Ended why is), ap is_some (committed_is (end past n) h).1)
     by_test false h is = absurd (none-some why is)
 
-dead_says : (past : Past) (n : Name) (why : DeskNo) → if_dead past n ≡ Some why → (a : Name) × (why ≡ desk.Orphan a) × (dead past n ≡ Some a)
+pub dead_says : (past : Past) (n : Name) (why : DeskNo) → if_dead past n ≡ Some why → (a : Name) × (why ≡ desk.Orphan a) × (dead past n ≡ Some a)
 dead_says past n why is = by_found (dead past n) refl is
   where
     by_found : (o : Option Name) → dead past n ≡ o → option_map (λ a. desk.Orphan a) o ≡ Some why → (a : Name) × (why ≡ desk.Orphan a) × (dead past n ≡ Some a)
     by_found None at h = absurd (none-some why h)
     by_found (Some a) at h = (a, sym (same_Some (desk.Orphan a) why h), at)
 
-ready_says : (past : Past) (n : Name) (why : DeskNo) → if_ready past n ≡ Some why → (why ≡ desk.Ready) × (is_ready past n ≡ true)
+pub ready_says : (past : Past) (n : Name) (why : DeskNo) → if_ready past n ≡ Some why → (why ≡ desk.Ready) × (is_ready past n ≡ true)
 ready_says past n why is = by_test (is_ready past n) refl is
   where
     by_test : (b : Bool) → is_ready past n ≡ b → (if b then Some desk.Ready else None) ≡ Some why → (why ≡ desk.Ready) × (is_ready past n ≡ true)
     by_test true at h = (sym (same_Some desk.Ready why h), at)
     by_test false at h = absurd (none-some why h)
 
-open_says : (past : Past) (n : Name) (why : DeskNo) → if_open past n ≡ Some why → (c : Name) × (why ≡ desk.ChildrenOpen c) × (open_child past n ≡ Some c)
+pub open_says : (past : Past) (n : Name) (why : DeskNo) → if_open past n ≡ Some why → (c : Name) × (why ≡ desk.ChildrenOpen c) × (open_child past n ≡ Some c)
 open_says past n why is = by_found (open_child past n) refl is
   where
     by_found : (o : Option Name) → open_child past n ≡ o → option_map (λ c. desk.ChildrenOpen c) o ≡ Some why → (c : Name) × (why ≡ desk.ChildrenOpen c) × (open_child past n ≡ Some c)

@@ -10,7 +10,7 @@ ghost use Rattle.qc_event.specs.Standing.{IsUser, Started};
 ghost use Rattle.qc_event.specs.Tables.{setting_of};
 ghost use Rattle.qc_managers.specs.Carrying.{entry};
 ghost use Rattle.qc_net.specs.Courier.{link_of};
-ghost use Rattle.qc_script.specs.Calls.{Committed, IsForChild, IsGrounded, NotAborted, NotCommitted, by_client};
+ghost use Rattle.qc_script.specs.Calls.{Committed, IsForChild, IsGrounded, NotAborted, NotCommitted, RefusesCommit, by_client};
 ghost use Rattle.qc_script.specs.Client.{Client, Made};
 ghost use Rattle.qc_session.specs.Acting.{IsUnaborted, IsUnfounded};
 ghost use Rattle.qc_session.specs.Clients.{IsFor};
@@ -174,6 +174,7 @@ pub(crate) fn commit_below<R: Wait, D: Disk + Drop, L: Link + Drop, N: Mounting>
         → OnOk result (Committed c of.now line.old.pass.seen line.new.pass.seen) }
     ensures err { (c : Client) → IsFor (setting_of N.table N.base) line.old.pass line.new.pass c
         → IfErr result (NotCommitted c of.now line.old.pass.seen line.new.pass.seen) }
+    ensures refused { IfErr result (RefusesCommit line.new.pass.seen of.now) }
     ensures went { HasGoneOn (setting_of N.table N.base) line.old.pass line.new.pass
         (L.view (link_of line.old.courier)).plan (L.view (link_of line.new.courier)).plan
         line.old.patience line.new.patience line.old.system line.new.system }
@@ -197,6 +198,7 @@ pub(crate) fn commit_top<R: Wait, D: Disk + Drop, L: Link + Drop, N: Mounting>(
         → OnOk result (Committed c top.now line.old.pass.seen line.new.pass.seen) }
     ensures err { (c : Client) → IsFor (setting_of N.table N.base) line.old.pass line.new.pass c
         → IfErr result (NotCommitted c top.now line.old.pass.seen line.new.pass.seen) }
+    ensures refused { IfErr result (RefusesCommit line.new.pass.seen top.now) }
     ensures went { HasGoneOn (setting_of N.table N.base) line.old.pass line.new.pass
         (L.view (link_of line.old.courier)).plan (L.view (link_of line.new.courier)).plan
         line.old.patience line.new.patience line.old.system line.new.system }

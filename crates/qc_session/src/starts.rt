@@ -6,7 +6,7 @@ ghost use Rattle.qc_event.specs.History.{is_child};
 ghost use Rattle.qc_event.specs.Standing.{IsUser, Started};
 ghost use Rattle.qc_event.specs.Tables.{setting_of};
 ghost use Rattle.qc_net.specs.Courier.{link_of};
-ghost use Rattle.qc_script.specs.Calls.{WasRefused, by_client};
+ghost use Rattle.qc_script.specs.Calls.{RefusesChild, WasRefused, by_client};
 ghost use Rattle.qc_script.specs.Client.{Client, Made};
 ghost use Rattle.qc_script.specs.Numbers.{Numbers};
 ghost use Rattle.qc_session.specs.Acting.{StandsBelow};
@@ -38,6 +38,7 @@ pub(crate) fn start_top<R: Wait, D: Disk + Drop, L: Link + Drop, N: Mounting>(
         → IfOk result (λ _. Numbers c line.old.pass.seen line.new.pass.seen) }
     ensures err { (c : Client) → IsFor (setting_of N.table N.base) line.old.pass line.new.pass c
         → IfErr result (WasRefused c [] line.old.pass.seen line.new.pass.seen) }
+    ensures refused { IfErr result (RefusesChild line.new.pass.seen []) }
     ensures went { HasGoneOn (setting_of N.table N.base) line.old.pass line.new.pass
         (L.view (link_of line.old.courier)).plan (L.view (link_of line.new.courier)).plan
         line.old.patience line.new.patience line.old.system line.new.system }
@@ -58,6 +59,7 @@ pub(crate) fn start_child<R: Wait, D: Disk + Drop, L: Link + Drop, N: Mounting>(
     ensures ok { IfOk result (λ n. HasStarted line.old.pass line.new.pass of.now n kind) }
     ensures err { (c : Client) → IsFor (setting_of N.table N.base) line.old.pass line.new.pass c
         → IfErr result (WasRefused c of.now line.old.pass.seen line.new.pass.seen) }
+    ensures refused { IfErr result (RefusesChild line.new.pass.seen of.now) }
     ensures went { HasGoneOn (setting_of N.table N.base) line.old.pass line.new.pass
         (L.view (link_of line.old.courier)).plan (L.view (link_of line.new.courier)).plan
         line.old.patience line.new.patience line.old.system line.new.system }

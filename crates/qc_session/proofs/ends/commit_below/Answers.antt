@@ -6,7 +6,7 @@ use Rattle.qc_event.specs.declared.event.Event.TheVariants as event
 use Rattle.qc_event.specs.declared.event.How.TheVariants.{Commit as Commits}
 use Rattle.qc_desk.specs.Refusing.{against_commit}
 use Rattle.qc_desk.specs.declared.view.View.{View}
-use Rattle.qc_script.specs.Calls.{NotCommitted}
+use Rattle.qc_script.specs.Calls.{NotCommitted, RefusesCommit}
 use Rattle.qc_session.proofs.Committing.{below_committed}
 use Rattle.qc_session.proofs.Own.{made_so}
 use Rattle.qc_session.proofs.Refused.{commit_refused}
@@ -16,6 +16,7 @@ use Rattle.qc_net.specs.Courier.{held_of, link_of}
 use Rattle.qc_session.proofs.Going.{went_by, went_looking}
 use Rattle.qc_session.proofs.ends.commit_below.Goals as goal
 use Rattle.qc_session.proofs.Knowing.{seen_legal}
+use Rattle.qc_session.proofs.Exact.{commit_exact}
 
 pub returns-in-Ok-clause-ok : goal.returns-in-Ok-clause-ok
 returns-in-Ok-clause-ok g c = λ client for.
@@ -43,3 +44,8 @@ returns-in-Err-clause-went g c =
     let v = c.args.line.now.pass in
     let line = c.end-ended.new.self in
     went_looking (setting_of g.N.Store.table g.N.Store.base) v line.pass (λ k. (g.L.Link.view (link_of k)).plan) (of_looked v line.pass c.in-Err.ensures.err.0) c.end-ended.ensures.rest line.known (held_of line.courier) line.keeps
+
+pub returns-in-Err-clause-refused : goal.returns-in-Err-clause-refused
+returns-in-Err-clause-refused g c =
+    let seen = c.end-ended.new.self.pass.seen in
+    subst (RefusesCommit seen c.args.of.now) (sym c.no_of.ensures) (commit_exact seen c.args.of.now c.in-Err.no c.in-Err.ensures.err.1)

@@ -13,7 +13,7 @@ use Rattle.qc_event.specs.declared.event.Event.TheVariants as event
 use Rattle.qc_managers.specs.Carrying.{entry}
 use Rattle.qc_desk.specs.Refusing.{against_ready}
 use Rattle.qc_desk.specs.declared.view.View.{View}
-use Rattle.qc_script.specs.Calls.{Committed, NotCommitted}
+use Rattle.qc_script.specs.Calls.{Committed, NotCommitted, RefusesCommit}
 use Rattle.qc_session.specs.Acting.{log_no}
 use Rattle.qc_refine.proofs.Restoring.ListedNames.{number_top_fits}
 use Rattle.qc_system.specs.Kept.{HasRefused}
@@ -28,6 +28,7 @@ use Rattle.qc_net.specs.Courier.{held_of, link_of}
 use Rattle.qc_session.proofs.Going.{went_looking, went_on_from, went_then}
 use Rattle.qc_session.proofs.ends.commit_top.Goals as goal
 use Rattle.qc_session.proofs.Knowing.{seen_legal}
+use Rattle.qc_session.proofs.Exact.{log_exact, ready_exact}
 
 pub returns-in-Err-clause-err : goal.returns-in-Err-clause-err
 returns-in-Err-clause-err g c = λ client for.
@@ -152,3 +153,22 @@ returns-clause-went g c =
     (λ was. ready_tidy (setting_of g.N.Store.table g.N.Store.base) v u.pass (seen_legal u.known) first.number was (event.Ready c.args.top.now) e.0 e.1 (ap (λ (x : View). x.seen) e.3) c.args.top.now refl)
     (went_on_from (setting_of g.N.Store.table g.N.Store.base) u.pass w.pass y.pass (λ k. (g.L.Link.view (link_of k)).plan) w.known second c.look.ensures.rest
     (went_looking (setting_of g.N.Store.table g.N.Store.base) w.pass y.pass (λ k. (g.L.Link.view (link_of k)).plan) c.log-logged.ensures.walk c.log-logged.ensures.rest y.known (held_of y.courier) y.keeps))
+
+pub returns-in-Err-clause-refused : goal.returns-in-Err-clause-refused
+returns-in-Err-clause-refused g c =
+    let seen = c.ready.new.self.pass.seen in
+    subst (RefusesCommit seen c.args.top.now) (sym c.no_of.ensures) (ready_exact seen c.args.top.now c.in-Err.no c.in-Err.ensures.err.1)
+
+pub returns-clause-refused : goal.returns-clause-refused
+returns-clause-refused g c =
+    let v = c.args.line.now.pass in
+    let u = c.ready.new.self.pass in
+    let w = c.look.new.self.pass in
+    let y = c.log-logged.new.self.pass in
+    let e = c.in-Ok.ensures.ok in
+    let s = c.look.ensures.looked in
+    let ready_u : is_ready u.seen c.args.top.now ≡ true = subst (λ p. is_ready p c.args.top.now ≡ true) (sym (ap (λ (x : View). x.seen) e.3)) (ready_seen (event.Ready c.args.top.now) c.args.top.now e.0 v.number refl) in
+    let ready_w : is_ready w.seen c.args.top.now ≡ true = subst (λ p. is_ready p c.args.top.now ≡ true) (sym s.0.1) (ready_later s.0.0 u.seen c.args.top.now ready_u) in
+    let third = c.log-logged.ensures.walk in
+    let ready_y : is_ready y.seen c.args.top.now ≡ true = subst (λ p. is_ready p c.args.top.now ≡ true) (sym third.grown) (ready_later third.newer w.seen c.args.top.now ready_w) in
+    subst (RefusesCommit y.seen c.args.top.now) (sym c.log_no.ensures) (log_exact y.seen c.args.top.now c.in-Err-logged.no ready_y c.in-Err-logged.ensures.refused)

@@ -2,7 +2,7 @@
 use Rattle.qc_carry.proofs.Walking.{of_entered_as, of_looked}
 use Rattle.qc_event.specs.Tables.{setting_of}
 use Rattle.qc_desk.specs.declared.view.View.{View}
-use Rattle.qc_script.specs.Calls.{WasRefused}
+use Rattle.qc_script.specs.Calls.{RefusesChild, WasRefused}
 use Rattle.qc_session.proofs.Own.{made_so}
 use Rattle.qc_session.proofs.Refused.{child_refused}
 use Rattle.qc_session.proofs.Tidy.{start_tidy}
@@ -12,6 +12,7 @@ use Rattle.qc_session.proofs.Going.{went_by, went_looking}
 use Rattle.qc_desk.specs.Refusing.{against_child}
 use Rattle.qc_session.proofs.starts.start_child.Goals as goal
 use Rattle.qc_session.proofs.Knowing.{seen_legal}
+use Rattle.qc_session.proofs.Exact.{child_exact}
 
 pub returns-in-Err-clause-err : goal.returns-in-Err-clause-err
 returns-in-Err-clause-err g c = λ client for.
@@ -33,3 +34,8 @@ returns-in-Err-clause-went g c =
     let v = c.args.line.now.pass in
     let line = c.start-started.new.self in
     went_looking (setting_of g.N.Store.table g.N.Store.base) v line.pass (λ k. (g.L.Link.view (link_of k)).plan) (of_looked v line.pass c.in-Err.ensures.err.0) c.start-started.ensures.rest line.known (held_of line.courier) line.keeps
+
+pub returns-in-Err-clause-refused : goal.returns-in-Err-clause-refused
+returns-in-Err-clause-refused g c =
+    let seen = c.start-started.new.self.pass.seen in
+    subst (RefusesChild seen c.args.of.now) (sym c.no_of.ensures) (child_exact seen c.args.of.now c.in-Err.no c.in-Err.ensures.err.1)

@@ -6,7 +6,7 @@ use Rattle.qc_desk.specs.declared.view.View.{View}
 use Rattle.qc_session.proofs.Beginning.{top_begun, top_numbers}
 use Rattle.qc_session.proofs.Own.{made_so}
 use Rattle.qc_session.proofs.Tidy.{start_tidy}
-use Rattle.std.proofs.Common.{[], ap}
+use Rattle.std.proofs.Common.{[], ap, inl, refl}
 use Rattle.std.proofs.lemmas.Result.{err_from_is_err_and}
 use Rattle.qc_net.specs.Courier.{held_of, link_of}
 use Rattle.qc_session.proofs.Going.{went_by, went_looking}
@@ -43,3 +43,9 @@ returns-in_err-name-clause-went g c =
     let v = c.args.line.now.pass in
     let line = c.start_top-started.new.self in
     went_looking (setting_of g.N.Store.table g.N.Store.base) v line.pass (λ k. (g.L.Link.view (link_of k)).plan) (of_looked v line.pass c.in_err-name.ensures.err.0) c.start_top-started.ensures.rest line.known (held_of line.courier) line.keeps
+
+pub returns-in_err-name-clause-refused : goal.returns-in_err-name-clause-refused
+returns-in_err-name-clause-refused g c =
+    let r = c.in_err-name.ensures.err in
+    let p = err_from_is_err_and c.from_residual.result c.from_residual.ensures.1 in
+    rw (p.1, p.2) (inl refl, r.1)

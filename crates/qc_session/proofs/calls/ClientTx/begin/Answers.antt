@@ -6,7 +6,7 @@ use Rattle.qc_event.specs.declared.event.Kind.TheVariants as kind
 use Rattle.qc_event.specs.History.{is_child}
 use Rattle.qc_event.specs.Tables.{setting_of}
 use Rattle.qc_net.specs.Courier.{link_of}
-use Rattle.qc_script.specs.Calls.{WasRefused}
+use Rattle.qc_script.specs.Calls.{RefusesChild, WasRefused}
 use Rattle.qc_session.specs.Clients.{client_of, link_told}
 use Rattle.qc_session.proofs.Beginning.{child_begun, child_is, child_numbers}
 use Rattle.qc_session.proofs.Calling.{begun_keeps, client_now, for, met_now}
@@ -102,3 +102,7 @@ pub returns-clause-client : goal.returns-clause-client
 returns-clause-client g c =
     let me = c.args.self.now in
     client_now c.start_child.ensures.went me.kept.kin me.root me.session (λ s. s.now.desk.epoch)
+
+pub returns-then-is_empty-clause-refused : goal.returns-then-is_empty-clause-refused
+returns-then-is_empty-clause-refused g c =
+    subst (λ n. IfErr c.start_top.result (RefusesChild c.start_top.new.line.pass.seen n)) (sym (c.is_empty.ensures.0 c.if-is_empty.true)) c.start_top.ensures.refused
