@@ -1,4 +1,4 @@
-//! Disks at which two sessions meet.
+//! Disks at which two sessions, or two branches, meet.
 
 use crate::meeting::Meeting;
 use qc_run::Gate;
@@ -10,14 +10,16 @@ use std::sync::atomic::{AtomicBool, Ordering};
 pub(crate) struct Crossing {
     begun: AtomicBool,
     meeting: Meeting,
+    second_waits: bool,
 }
 
 impl Crossing {
-    /// No session has passed.
-    pub(crate) fn new() -> Self {
+    /// No session has passed. Where the second waits, it passes only once a write at the first copy waits for its own.
+    pub(crate) fn new(second_waits: bool) -> Self {
         Crossing {
             begun: AtomicBool::new(false),
             meeting: Meeting::new(),
+            second_waits,
         }
     }
 
@@ -28,8 +30,11 @@ impl Crossing {
 }
 
 impl Gate for Crossing {
-    fn pass(&self, _session: u8) {
+    fn pass(&self, session: u8) {
         self.begun.store(true, Ordering::SeqCst);
+        if self.second_waits && session == 1 {
+            self.meeting.wait_for_the_first();
+        }
     }
 }
 

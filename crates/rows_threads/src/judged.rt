@@ -56,6 +56,19 @@ fn firsts_of(alloc: Global, script: &Script) -> Result<Vec<Config>, AllocError> 
     Ok(firsts)
 }
 
+/// Whether a transaction of a history was killed.
+pub(crate) fn has_killed(entries: &[Entry]) -> bool {
+    entries.iter().any(|entry| {
+        matches!(
+            entry.event,
+            Event::End {
+                how: How::Abort(Cause::Killed),
+                ..
+            }
+        )
+    })
+}
+
 impl Judged {
     /// Whether the history is legal.
     pub(crate) fn is_legal(&self, alloc: Global) -> Result<bool, AllocError> {
@@ -85,14 +98,6 @@ impl Judged {
 
     /// Whether a transaction of it was killed.
     pub(crate) fn has_killed(&self) -> bool {
-        self.entries.iter().any(|entry| {
-            matches!(
-                entry.event,
-                Event::End {
-                    how: How::Abort(Cause::Killed),
-                    ..
-                }
-            )
-        })
+        has_killed(self.entries.as_slice())
     }
 }

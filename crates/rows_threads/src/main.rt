@@ -4,7 +4,8 @@
 //! - `gate OPTION ..`: two sessions that add to one record pass a gate at which each waits for the other; the status, whether
 //!   they met there, and whether each top that was committed was counted.
 //! - `disks OPTION ..`: each of two sessions writes at a copy of its own, where its first write waits for that of the
-//!   other; the status, and whether the writes met.
+//!   other; the status, whether the writes met, and whether a transaction was killed. `par OPTION ..` is the same of two
+//!   bodies at once, and `kill OPTION ..` of a session that marks the other's top before it writes.
 //! - `adds SESSIONS RUNS`: each session adds to one record; how many runs counted each top that was committed, and no
 //!   other.
 //! - `follow SEED RUNS OPTION ..`: scripts made from a seed; how many of their histories are legal as the checker has it,
@@ -37,6 +38,7 @@ use adds::{agrees, count_agreed};
 use audits::count_following;
 use command::run_text;
 use crossing::Crossing;
+use judged::has_killed;
 use made::Tops;
 use meeting::Meeting;
 use qc_disk::MemShop;
@@ -59,6 +61,19 @@ const AT_TWO_COPIES: &str = r#"{"copies":2,"records":[
 {"name":"y","start":0,"config":{"votes":[0,1],"read":1,"write":1}}],
 "sessions":[{"tops":[{"steps":[["set","x",1]]}]},{"tops":[{"steps":[["set","y",1]]}]}]}"#;
 
+/// Two bodies at once, each of which writes a record at a copy of its own.
+const AT_ONCE: &str = r#"{"copies":2,"records":[
+{"name":"x","start":0,"config":{"votes":[1,0],"read":1,"write":1}},
+{"name":"y","start":0,"config":{"votes":[0,1],"read":1,"write":1}}],
+"sessions":[{"tops":[{"steps":[["par",[{"steps":[["set","x",1]]},{"steps":[["set","y",1]]}]]]}]}]}"#;
+
+/// Two sessions, of which the second marks the top of the first, and then writes.
+const MARKING: &str = r#"{"copies":2,"records":[
+{"name":"x","start":0,"config":{"votes":[1,0],"read":1,"write":1}},
+{"name":"y","start":0,"config":{"votes":[0,1],"read":1,"write":1}}],
+"sessions":[{"tops":[{"steps":[["set","x",1],["set","x",2]]}]},
+{"tops":[{"steps":[["kill",0],["set","y",1]]}]}]}"#;
+
 // Runs two sessions that meet at a gate.
 fn print_gate<R: Threads + Wait + Sync>(
     handle: &R,
@@ -77,21 +92,28 @@ fn print_gate<R: Threads + Wait + Sync>(
     )
 }
 
-// Runs two sessions whose first writes meet.
+// Runs sessions, or bodies at once, whose first writes meet.
 fn print_disks<R: Threads + Wait + Sync>(
     handle: &R,
     rt: &HostRuntime,
     alloc: Global,
+    script: &str,
+    crossing: Crossing,
     options: &str,
 ) -> io::Result<()> {
-    let crossing = Crossing::new();
     let mut shop = WatchedShop {
         shop: MemShop::new(Vec::new(alloc), Vec::new(alloc)),
         watch: &crossing,
     };
-    let outcome = run_text(handle, alloc, options, AT_TWO_COPIES, &mut shop, &crossing)?;
+    let outcome = run_text(handle, alloc, options, script, &mut shop, &crossing)?;
+    let entries = outcome.ran.trail.to_vec(alloc)?;
+    let killed = if has_killed(entries.as_slice()) {
+        "one is killed"
+    } else {
+        "none is killed"
+    };
     println!(rt;
-        ": status {}, {}",
+        ": status {}, {}, {killed}",
         outcome.ran.status.code(),
         crossing.met()
     )
@@ -142,7 +164,9 @@ fn answer<R: Threads + Wait + Sync>(
     let (first, second) = rest.split_once(' ').unwrap_or((rest, ""));
     match name {
         "gate" => print_gate(handle, rt, alloc, rest),
-        "disks" => print_disks(handle, rt, alloc, rest),
+        "disks" => print_disks(handle, rt, alloc, AT_TWO_COPIES, Crossing::new(false), rest),
+        "par" => print_disks(handle, rt, alloc, AT_ONCE, Crossing::new(false), rest),
+        "kill" => print_disks(handle, rt, alloc, MARKING, Crossing::new(true), rest),
         "adds" => {
             let agreed = count_agreed(handle, alloc, number(first), number(second))?;
             println!(rt; ": {agreed} agreed")

@@ -43,6 +43,16 @@ impl Meeting {
         self.came[one].store(false, Ordering::SeqCst);
     }
 
+    /// Waits until the first of the two has come, or gives up.
+    pub(crate) fn wait_for_the_first(&self) {
+        for _ in 0..TURNS {
+            if self.came[0].load(Ordering::SeqCst) {
+                return;
+            }
+            thread::yield_now();
+        }
+    }
+
     /// How many of the two saw the other.
     pub(crate) fn met(&self) -> &'static str {
         let first = self.saw[0].load(Ordering::SeqCst);
