@@ -1,11 +1,12 @@
 -- That a desk's refusal, and the ledger's, is the first that holds.
-use Rattle.std.proofs.Common.{◌≡◌, inl, inr, Bool, true, false, refl, sym, subst}
+use Rattle.std.proofs.Common.{◌≡◌, inl, inr, Bool, true, false, refl, sym, ap, subst}
 use Rattle.std.specs.Prelude.{Option, None, Some, if◌then◌else◌}
-use Rattle.std.specs.Option.{option_map, option_or}
+use Rattle.std.specs.Option.{option_or}
 use Rattle.std.proofs.lemmas.Option.{none-some, same_Some}
-use Rattle.qc_event.specs.Dead.{dead, outcome, is_committed, is_live}
+use Rattle.qc_event.proofs.OneEntry.{none_before}
+use Rattle.qc_event.specs.Dead.{outcome, outcome_of, is_committed, is_live}
 use Rattle.qc_event.specs.History.{Past, Name, is_ready}
-use Rattle.qc_event.specs.Standing.{open_child}
+use Rattle.qc_desk.proofs.Entering.{alive, closed, not_ended, unready}
 use Rattle.qc_desk.specs.declared.refusal.DeskNo.{DeskNo}
 use Rattle.qc_desk.specs.declared.refusal.DeskNo.TheVariants as desk
 use Rattle.qc_desk.specs.Refusing.{Refuses as Against, IsShort, against_child, against_commit, against_ready, if_committed, if_dead, if_ended, if_open, if_ready}
@@ -39,33 +40,8 @@ ended_first past n why is = by_test (is_live (outcome past n)) refl is
     by_test true h is = absurd (none-some why is)
     by_test false h is = (sym (same_Some desk.Ended why is), h)
 
-not_ended : (past : Past) (n : Name) → if_ended past n ≡ None → is_live (outcome past n) ≡ true
-not_ended past n none = by_test (is_live (outcome past n)) refl none
-  where
-    by_test : (b : Bool) → is_live (outcome past n) ≡ b → (if b then None else Some desk.Ended) ≡ None → is_live (outcome past n) ≡ true
-    by_test true h is = h
-    by_test false h is = absurd (none-some desk.Ended (sym is))
-
-not_dead : (past : Past) (n : Name) → if_dead past n ≡ None → dead past n ≡ None
-not_dead past n none = by_found (dead past n) refl none
-  where
-    by_found : (o : Option Name) → dead past n ≡ o → option_map (λ a. desk.Orphan a) o ≡ None → dead past n ≡ None
-    by_found None at h = at
-    by_found (Some a) at h = absurd (none-some (desk.Orphan a) (sym h))
-
-not_ready : (past : Past) (n : Name) → if_ready past n ≡ None → is_ready past n ≡ false
-not_ready past n none = by_test (is_ready past n) refl none
-  where
-    by_test : (b : Bool) → is_ready past n ≡ b → (if b then Some desk.Ready else None) ≡ None → is_ready past n ≡ false
-    by_test true at h = absurd (none-some desk.Ready (sym h))
-    by_test false at h = at
-
-none_open : (past : Past) (n : Name) → if_open past n ≡ None → open_child past n ≡ None
-none_open past n none = by_found (open_child past n) refl none
-  where
-    by_found : (o : Option Name) → open_child past n ≡ o → option_map (λ c. desk.ChildrenOpen c) o ≡ None → open_child past n ≡ None
-    by_found None at h = at
-    by_found (Some c) at h = absurd (none-some (desk.ChildrenOpen c) (sym h))
+live : (past : Past) (n : Name) → if_ended past n ≡ None → is_live (outcome past n) ≡ true
+live past n none = ap (λ o. is_live (outcome_of o)) (not_ended past n none)
 
 -- IN TURN
 
@@ -73,10 +49,6 @@ none_open past n none = by_found (open_child past n) refl none
 in_turn : (P : DeskNo → Type 0) (first rest : Option DeskNo) → ((why : DeskNo) → first ≡ Some why → P why) → (first ≡ None → (why : DeskNo) → rest ≡ Some why → P why) → (why : DeskNo) → option_or first rest ≡ Some why → P why
 in_turn P None rest here behind why is = behind refl why is
 in_turn P (Some x) rest here behind why is = here why is
-
-neither : (first rest : Option DeskNo) → option_or first rest ≡ None → (first ≡ None) × (rest ≡ None)
-neither None rest none = (refl, none)
-neither (Some x) rest none = absurd (none-some x (sym none))
 
 module _ (past : Past) (n : Name) where
   abbrev Child : DeskNo → Type 0
@@ -91,14 +63,14 @@ module _ (past : Past) (n : Name) where
 
   pub child_exact : (why : DeskNo) → Against (against_child n) past why → RefusesChild past n (no_of why)
   child_exact why (inr (free, want)) =
-      let first = neither (if_committed past n) _ free in
-      let second = neither (if_dead past n) _ first.1 in
-      child_wanting (not_committed past n first.0, not_dead past n second.0, not_ready past n second.1) why want
+      let first = none_before (if_committed past n) _ free in
+      let second = none_before (if_dead past n) _ first.1 in
+      child_wanting (not_committed past n first.0, alive past n second.0, unready past n second.1) why want
   child_exact why (inl is) = in_turn Child (if_committed past n) _
       (λ w h. let s = committed_first past n w h in subst Child (sym s.0) s.1)
       (λ other. in_turn Child (if_dead past n) _
       (λ w h. let s = dead_says past n w h in subst Child (sym s.1) (not_committed past n other, s.2))
-      (λ alive w h. let s = ready_says past n w h in subst Child (sym s.0) (not_committed past n other, not_dead past n alive, s.1)))
+      (λ living w h. let s = ready_says past n w h in subst Child (sym s.0) (not_committed past n other, alive past n living, s.1)))
       why is
 
   abbrev Commit : DeskNo → Type 0
@@ -115,29 +87,29 @@ module _ (past : Past) (n : Name) where
   by_end w h = let s = ended_first past n w h in subst Commit (sym s.0) s.1
 
   by_death : if_ended past n ≡ None → (w : DeskNo) → if_dead past n ≡ Some w → Commit w
-  by_death live w h = let s = dead_says past n w h in subst Commit (sym s.1) (not_ended past n live, s.2)
+  by_death before w h = let s = dead_says past n w h in subst Commit (sym s.1) (live past n before, s.2)
 
   by_child : if_ended past n ≡ None → if_dead past n ≡ None → (w : DeskNo) → if_open past n ≡ Some w → Commit w
-  by_child live alive w h = let s = open_says past n w h in subst Commit (sym s.1) (not_ended past n live, not_dead past n alive, s.2)
+  by_child before living w h = let s = open_says past n w h in subst Commit (sym s.1) (live past n before, alive past n living, s.2)
 
   pub commit_exact : (why : DeskNo) → Against (against_commit n) past why → RefusesCommit past n (no_of why)
   commit_exact why (inr (free, want)) =
-      let first = neither (if_ended past n) _ free in
-      let second = neither (if_dead past n) _ first.1 in
-      commit_wanting (not_ended past n first.0, not_dead past n second.0, none_open past n second.1) why want
-  commit_exact why (inl is) = in_turn Commit (if_ended past n) _ by_end (λ live. in_turn Commit (if_dead past n) _ (by_death live) (λ alive. by_child live alive)) why is
+      let first = none_before (if_ended past n) _ free in
+      let second = none_before (if_dead past n) _ first.1 in
+      commit_wanting (live past n first.0, alive past n second.0, closed past n second.1) why want
+  commit_exact why (inl is) = in_turn Commit (if_ended past n) _ by_end (λ before. in_turn Commit (if_dead past n) _ (by_death before) (λ living. by_child before living)) why is
 
   pub ready_exact : (why : DeskNo) → Against (against_ready n) past why → RefusesCommit past n (no_of why)
   ready_exact why (inr (free, want)) =
-      let first = neither (if_ended past n) _ free in
-      let second = neither (if_dead past n) _ first.1 in
-      let third = neither (if_ready past n) _ second.1 in
-      commit_wanting (not_ended past n first.0, not_dead past n second.0, none_open past n third.1) why want
+      let first = none_before (if_ended past n) _ free in
+      let second = none_before (if_dead past n) _ first.1 in
+      let third = none_before (if_ready past n) _ second.1 in
+      commit_wanting (live past n first.0, alive past n second.0, closed past n third.1) why want
   ready_exact why (inl is) = in_turn Commit (if_ended past n) _ by_end
-      (λ live. in_turn Commit (if_dead past n) _ (by_death live)
-      (λ alive. in_turn Commit (if_ready past n) _
-      (λ w h. let s = ready_says past n w h in subst Commit (sym s.0) (not_ended past n live, not_dead past n alive, s.1))
-      (λ unready. by_child live alive)))
+      (λ before. in_turn Commit (if_dead past n) _ (by_death before)
+      (λ living. in_turn Commit (if_ready past n) _
+      (λ w h. let s = ready_says past n w h in subst Commit (sym s.0) (live past n before, alive past n living, s.1))
+      (λ _. by_child before living)))
       why is
 
   -- the ledger's, of a top that is ready

@@ -1,5 +1,5 @@
 -- That a desk's refusal tells what stands in the way of a name.
-use Rattle.std.proofs.Common.{◌≡◌, inl, inr, Bool, true, false, [], ◌∷◌, length, refl, sym, ap, ◌∙◌, subst}
+use Rattle.std.proofs.Common.{◌≡◌, inl, inr, Bool, true, false, [], ◌∷◌, refl, sym, ap, ◌∙◌, subst}
 use mathlib.Core.Bool.{true≢false}
 use Rattle.std.specs.Prelude.{Option, None, Some, is_some, is_none, find, cond, option_to_list, IsTrue, if◌then◌else◌}
 use Rattle.std.specs.Option.{option_map, option_or}
@@ -10,7 +10,7 @@ use Rattle.qc_event.specs.declared.event.Event.{Event}
 use Rattle.qc_event.specs.declared.event.Event.TheVariants as event
 use Rattle.qc_event.specs.declared.event.How.{How}
 use Rattle.qc_event.specs.Dead.{dead, outcome, outcome_of, is_committed, is_live}
-use Rattle.qc_event.specs.History.{Past, Name, start, end, is_child, is_ready, child_in, children, limit}
+use Rattle.qc_event.specs.History.{Past, Name, start, end, is_child, is_ready, child_in, children}
 use Rattle.qc_event.specs.Standing.{open_child}
 use Rattle.qc_event.proofs.Lawful.{committed_is}
 use Rattle.qc_event.proofs.OneEntry.{start_stays, start_now}
