@@ -1,7 +1,7 @@
 -- What a call of a disk in memory does, seen as a disk.
 use Rattle.std.proofs.Common.{◌≡◌, ◌<◌, ◌^◌, ℕ, ◌+◌, List, [], ◌∷◌, ◌++◌, length, Bool, true, false, if◌then◌else◌, Some, Result, Ok, Err, refl, sym, ◌∙◌, ap, subst, arith}
 use Rattle.std.specs.Result.{IsErrOf, OnOk}
-use Rattle.qc_disk.specs.Disk.{DiskView, next, Rose, HasCause, Torn, Cut, ImagesFollow, Within, Only, Steps, Elapses, Stays}
+use Rattle.qc_disk.specs.Disk.{DiskView, next, Rose, HasCause, CountsOnce, Torn, Cut, ImagesFollow, Within, Only, Steps, Elapses, Stays}
 use Rattle.qc_disk.specs.Replay.{Act, nothing, wrote, cut_to, synced, does, leaves, replayed, images, syncs_in}
 use Rattle.qc_disk.specs.Laws.{torn_same, torn-written, cut_same, cut-taken, image_now}
 use Rattle.qc_disk.specs.Tape.{tape_first, tape_acts, tape_bytes, Applied, Untouched}
@@ -59,6 +59,18 @@ pub turn-cause : {T : Type 0} (old new : MemDisk) (act : Act) (result : Result T
 turn-cause old new act (Ok answer) small turned = stays-cause _ _ _ turned.faults (λ is. cc)
 turn-cause old new act (Err Failed) small turned = rises-cause _ _ _ small turned.faults
 turn-cause old new act (Err Memory) small turned = stays-cause _ _ _ turned.faults (λ is. cc)
+
+-- each of these rises once at most
+stays-once : (before now : ℕ) (P : Type 0) → now ≡ before → CountsOnce before now P
+stays-once before now P same = record { once = omega arith; spared = λ never. same }
+
+rises-once : (before now : ℕ) (P : Type 0) → now ≡ next before → P → CountsOnce before now P
+rises-once before now P rose failed = record { once = omega (arith, rose); spared = λ never. absurd (never failed) }
+
+pub turn-once : {T : Type 0} (old new : MemDisk) (act : Act) (result : Result T DiskNo) → Turned old new act result → CountsOnce (mem_faults old) (mem_faults new) (IsErrOf result Failed)
+turn-once old new act (Ok answer) turned = stays-once _ _ _ turned.faults
+turn-once old new act (Err Failed) turned = rises-once _ _ _ turned.faults refl
+turn-once old new act (Err Memory) turned = stays-once _ _ _ turned.faults
 
 unmade-stays : (old new : MemDisk) → Unmade old new → Stays (mem_view old) (mem_view new)
 unmade-stays old new unmade = record {

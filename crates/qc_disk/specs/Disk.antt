@@ -31,6 +31,11 @@ pub record HasCause (before now : ℕ) (Failed : Type 0) : Type 0 where
   pub later : before ≤ now
   pub failed : Failed → Rose before now
 
+-- The count of faults rises by one at most, and only where this fails.
+pub record CountsOnce (before now : ℕ) (Failed : Type 0) : Type 0 where
+  pub once : now ≤ before + 1
+  pub spared : (Failed → ⊥) → now ≡ before
+
 -- these bytes with others written at a place
 abbrev pub written : ℕ → List ℕ → List ℕ → List ℕ
 written at bytes old = take at old ++ bytes ++ drop (at + length bytes) old

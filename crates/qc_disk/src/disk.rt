@@ -1,7 +1,7 @@
 //! A disk as its users see it: what a read returns, and what a crash may leave.
 ghost use Rattle.std.specs.Prelude.{◌≡◌, ◌≤◌, ◌↔◌, ◌+◌, ℕ, max, List, length, take, option_map, IfOk, OnOk, OnErr, IsErrOf};
 ghost use Rattle.qc_disk.specs.declared.disk.DiskNo.TheVariants.{Memory};
-ghost use Rattle.qc_disk.specs.Disk.{DiskView, HasCause, Rose, written, Torn, Cut, ImagesFollow, Within, Only, IsImage, HasLength, Steps, Holds, Elapses, Advances, Stays};
+ghost use Rattle.qc_disk.specs.Disk.{DiskView, HasCause, CountsOnce, Rose, written, Torn, Cut, ImagesFollow, Within, Only, IsImage, HasLength, Steps, Holds, Elapses, Advances, Stays};
 
 use std::alloc::{AllocError, AllocFailed};
 use thiserror::Error;
@@ -49,6 +49,8 @@ pub trait Disk {
             (IsErrOf result DiskNo.Memory) }
         ensures cause { HasCause (view self.old).faults (view self.new).faults
             (IsErrOf result DiskNo.Failed) }
+        ensures counts_once { CountsOnce (view self.old).faults (view self.new).faults
+            (IsErrOf result DiskNo.Failed) }
         ensures memory { IsErrOf result DiskNo.Memory → Stays (view self.old) (view self.new) };
 
     /// Reads the bytes from a place on, as many as the buffer takes.
@@ -62,6 +64,8 @@ pub trait Disk {
         ensures advances { Advances (view self.old).moment (view self.new).moment
             (IsErrOf result DiskNo.Memory) }
         ensures cause { HasCause (view self.old).faults (view self.new).faults
+            (IsErrOf result DiskNo.Failed) }
+        ensures counts_once { CountsOnce (view self.old).faults (view self.new).faults
             (IsErrOf result DiskNo.Failed) }
         ensures memory { IsErrOf result DiskNo.Memory → Stays (view self.old) (view self.new) };
 
@@ -81,6 +85,8 @@ pub trait Disk {
             (IsErrOf result DiskNo.Memory) }
         ensures cause { HasCause (view self.old).faults (view self.new).faults
             (IsErrOf result DiskNo.Failed) }
+        ensures counts_once { CountsOnce (view self.old).faults (view self.new).faults
+            (IsErrOf result DiskNo.Failed) }
         ensures memory { IsErrOf result DiskNo.Memory → Stays (view self.old) (view self.new) };
 
     /// Drops the bytes behind a length. Until a sync, a crash may leave any bytes behind it, or none.
@@ -97,6 +103,8 @@ pub trait Disk {
             (IsErrOf result DiskNo.Memory) }
         ensures cause { HasCause (view self.old).faults (view self.new).faults
             (IsErrOf result DiskNo.Failed) }
+        ensures counts_once { CountsOnce (view self.old).faults (view self.new).faults
+            (IsErrOf result DiskNo.Failed) }
         ensures memory { IsErrOf result DiskNo.Memory → Stays (view self.old) (view self.new) };
 
     /// After it, a crash leaves what a read returns.
@@ -110,6 +118,8 @@ pub trait Disk {
         ensures advances { Advances (view self.old).moment (view self.new).moment
             (IsErrOf result DiskNo.Memory) }
         ensures cause { HasCause (view self.old).faults (view self.new).faults
+            (IsErrOf result DiskNo.Failed) }
+        ensures counts_once { CountsOnce (view self.old).faults (view self.new).faults
             (IsErrOf result DiskNo.Failed) }
         ensures memory { IsErrOf result DiskNo.Memory → Stays (view self.old) (view self.new) };
 

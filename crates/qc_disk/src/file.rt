@@ -1,6 +1,6 @@
 //! A disk in a file. It tells no bytes: that a file is such a disk is trusted.
 ghost use Rattle.std.specs.Prelude.{◌≡◌, ◌≤◌, IfOk, None};
-ghost use Rattle.qc_disk.specs.Disk.{HasCause, next};
+ghost use Rattle.qc_disk.specs.Disk.{HasCause, CountsOnce, next};
 
 use crate::disk::{Disk, DiskNo};
 use crate::syncs::Syncs;
@@ -141,6 +141,7 @@ impl FileDisk {
         ensures faults { self.new.faults ≡ next self.old.faults }
         ensures syncs { self.new.syncs ≡ self.old.syncs }
         ensures cause { HasCause self.old.faults self.new.faults (Unit {0}) }
+        ensures counts_once { CountsOnce self.old.faults self.new.faults (Unit {0}) }
     {
         self.faults = self.faults.saturating_add(1);
         DiskNo::Failed

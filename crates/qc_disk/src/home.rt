@@ -124,7 +124,7 @@ impl Shop for HomeShop {
     type D = HomeDisk;
 
     ghost use Rattle.std.specs.Prelude.{◌≢◌, ◌++◌, ℕ, List, OnErr, IsErrOf, if◌then◌else◌};
-    ghost use Rattle.qc_disk.specs.Disk.{HasCause, next};
+    ghost use Rattle.qc_disk.specs.Disk.{HasCause, CountsOnce, next};
     ghost use Rattle.qc_disk.specs.Shop.{Tells, TellsAlike, if_given};
     ghost use Rattle.qc_disk.specs.Given.{given_list};
     ghost use Rattle.qc_disk.specs.Home.{home_content, home_faults, home_offers, home_view, HomeGives};
@@ -139,6 +139,8 @@ impl Shop for HomeShop {
         ensures kept { OnErr result ((p : List ℕ) (n : ℕ)
             → TellsAlike (home_view self.old) (home_view self.new) p n) }
         ensures cause { HasCause self.old.faults self.new.faults (IsErrOf result DiskNo.Failed) }
+        ensures counts_once { CountsOnce self.old.faults self.new.faults
+            (IsErrOf result DiskNo.Failed) }
         ensures gives { IfOk result (HomeGives place.now) }
         ensures gave { given_list self.new.given ≡ given_list self.old.given
             ++ if_given result place.now which }

@@ -17,7 +17,7 @@ pub struct MemDisk {
 
 impl MemDisk {
     ghost use Rattle.std.specs.Prelude.{◌≤◌, ◌+◌, ◌-◌, take, Some, IfOk, IsErrOf};
-    ghost use Rattle.qc_disk.specs.Disk.{HasCause, Elapses, Advances, Stays};
+    ghost use Rattle.qc_disk.specs.Disk.{HasCause, CountsOnce, Elapses, Advances, Stays};
     ghost use Rattle.qc_disk.specs.Replay.{act_of, image_after};
     ghost use Rattle.qc_disk.specs.MemDisk.{mem_first, mem_acts, mem_bytes, mem_fails, mem_faults, mem_at, mem_view, next_fault, Turned};
 
@@ -76,6 +76,8 @@ impl MemDisk {
             (IsErrOf result DiskNo.Memory) }
         ensures cause { HasCause (mem_faults self.old) (mem_faults self.new)
             (IsErrOf result DiskNo.Failed) }
+        ensures counts_once { CountsOnce (mem_faults self.old) (mem_faults self.new)
+            (IsErrOf result DiskNo.Failed) }
         ensures memory { IsErrOf result DiskNo.Memory
             → Stays (mem_view self.old) (mem_view self.new) }
         ensures turned { Turned self.old self.new (act_of deed new.now) result }
@@ -97,7 +99,7 @@ impl MemDisk {
 
 impl Disk for MemDisk {
     ghost use Rattle.std.specs.Prelude.{◌≤◌, ◌+◌, max, take, option_map, Some, IfOk, OnOk, OnErr, IsErrOf};
-    ghost use Rattle.qc_disk.specs.Disk.{HasCause, Rose, written, Torn, Cut, ImagesFollow, Within, Only, Steps, Holds, Elapses, Advances, Stays};
+    ghost use Rattle.qc_disk.specs.Disk.{HasCause, CountsOnce, Rose, written, Torn, Cut, ImagesFollow, Within, Only, Steps, Holds, Elapses, Advances, Stays};
     ghost use Rattle.qc_disk.specs.Replay.{nothing, wrote, cut_to, synced};
     ghost use Rattle.qc_disk.specs.Laws.{image_now, at_end};
     ghost use Rattle.qc_disk.specs.MemDisk.{mem_first, mem_acts, mem_bytes, mem_faults, mem_syncs, mem_images, mem_replays, mem_view, Turned};
@@ -120,6 +122,8 @@ impl Disk for MemDisk {
             (IsErrOf result DiskNo.Memory) }
         ensures cause { HasCause (mem_faults self.old) (mem_faults self.new)
             (IsErrOf result DiskNo.Failed) }
+        ensures counts_once { CountsOnce (mem_faults self.old) (mem_faults self.new)
+            (IsErrOf result DiskNo.Failed) }
         ensures memory { IsErrOf result DiskNo.Memory
             → Stays (mem_view self.old) (mem_view self.new) }
         ensures turned { Turned self.old self.new nothing result }
@@ -138,6 +142,8 @@ impl Disk for MemDisk {
         ensures advances { Advances (length (mem_acts self.old)) (length (mem_acts self.new))
             (IsErrOf result DiskNo.Memory) }
         ensures cause { HasCause (mem_faults self.old) (mem_faults self.new)
+            (IsErrOf result DiskNo.Failed) }
+        ensures counts_once { CountsOnce (mem_faults self.old) (mem_faults self.new)
             (IsErrOf result DiskNo.Failed) }
         ensures memory { IsErrOf result DiskNo.Memory
             → Stays (mem_view self.old) (mem_view self.new) }
@@ -165,6 +171,8 @@ impl Disk for MemDisk {
             (IsErrOf result DiskNo.Memory) }
         ensures cause { HasCause (mem_faults self.old) (mem_faults self.new)
             (IsErrOf result DiskNo.Failed) }
+        ensures counts_once { CountsOnce (mem_faults self.old) (mem_faults self.new)
+            (IsErrOf result DiskNo.Failed) }
         ensures memory { IsErrOf result DiskNo.Memory
             → Stays (mem_view self.old) (mem_view self.new) }
         ensures turned { Turned self.old self.new (wrote at bytes.now) result }
@@ -185,6 +193,8 @@ impl Disk for MemDisk {
             (IsErrOf result DiskNo.Memory) }
         ensures cause { HasCause (mem_faults self.old) (mem_faults self.new)
             (IsErrOf result DiskNo.Failed) }
+        ensures counts_once { CountsOnce (mem_faults self.old) (mem_faults self.new)
+            (IsErrOf result DiskNo.Failed) }
         ensures memory { IsErrOf result DiskNo.Memory
             → Stays (mem_view self.old) (mem_view self.new) }
         ensures turned { Turned self.old self.new (cut_to to) result }
@@ -202,6 +212,8 @@ impl Disk for MemDisk {
         ensures advances { Advances (length (mem_acts self.old)) (length (mem_acts self.new))
             (IsErrOf result DiskNo.Memory) }
         ensures cause { HasCause (mem_faults self.old) (mem_faults self.new)
+            (IsErrOf result DiskNo.Failed) }
+        ensures counts_once { CountsOnce (mem_faults self.old) (mem_faults self.new)
             (IsErrOf result DiskNo.Failed) }
         ensures memory { IsErrOf result DiskNo.Memory
             → Stays (mem_view self.old) (mem_view self.new) }

@@ -1,6 +1,6 @@
 //! Where disks come from.
 ghost use Rattle.std.specs.Prelude.{◌≡◌, ◌≢◌, ◌++◌, ℕ, List, IfOk, OnErr, IsErrOf};
-ghost use Rattle.qc_disk.specs.Disk.{HasCause};
+ghost use Rattle.qc_disk.specs.Disk.{HasCause, CountsOnce};
 ghost use Rattle.qc_disk.specs.Shop.{ShopView, Tells, TellsAlike, if_given};
 
 mod given;
@@ -32,5 +32,7 @@ pub trait Shop {
         ensures gave { (view self.new).gave ≡ (view self.old).gave
             ++ if_given result place.now which }
         ensures cause { HasCause (view self.old).faults (view self.new).faults
+            (IsErrOf result DiskNo.Failed) }
+        ensures counts_once { CountsOnce (view self.old).faults (view self.new).faults
             (IsErrOf result DiskNo.Failed) };
 }

@@ -1,6 +1,6 @@
 //! Runs of calls of a disk.
 ghost use Rattle.std.specs.Prelude.{◌≡◌, ◌≤◌, ◌<◌, ◌+◌, ℕ, List, max, length, option_map, IfOk, IfSome, OnOk, OnErr, IsErrOf, IsTrue, ◌↔◌, slice_index};
-ghost use Rattle.qc_disk.specs.Disk.{HasCause, written, Torn, ImagesFollow, Within, Only, Steps, Holds, LeavesOnly, FallsAway, ChangesOnce};
+ghost use Rattle.qc_disk.specs.Disk.{HasCause, CountsOnce, written, Torn, ImagesFollow, Within, Only, Steps, Holds, LeavesOnly, FallsAway, ChangesOnce};
 ghost use Rattle.qc_journal.specs.Device.{Touched};
 
 use qc_disk::{Disk, DiskNo};
@@ -24,6 +24,8 @@ pub(crate) fn write_synced<D: Disk>(disk: &mut D, at: u64, bytes: &[u8]) -> Resu
     ensures once { ChangesOnce D.view disk.old disk.new }
     ensures cause { HasCause (D.view disk.old).faults (D.view disk.new).faults
         (IsErrOf result DiskNo.Failed) }
+    ensures counts_once { CountsOnce (D.view disk.old).faults (D.view disk.new).faults
+        (IsErrOf result DiskNo.Failed) }
 {
     disk.write_at(at, bytes)?;
     disk.sync()
@@ -38,6 +40,8 @@ pub(crate) fn synced_len<D: Disk>(disk: &mut D) -> Result<u64, DiskNo>
     ensures any_moment { LeavesOnly D.view disk.old disk.new (D.view disk.old).may_leave }
     ensures falls { FallsAway D.view disk.old disk.new }
     ensures cause { HasCause (D.view disk.old).faults (D.view disk.new).faults
+        (IsErrOf result DiskNo.Failed) }
+    ensures counts_once { CountsOnce (D.view disk.old).faults (D.view disk.new).faults
         (IsErrOf result DiskNo.Failed) }
 {
     disk.sync()?;
@@ -55,6 +59,8 @@ pub(crate) fn read_front<D: Disk>(alloc: Global, disk: &mut D, size: u64) -> Res
     ensures any_moment { LeavesOnly D.view disk.old disk.new (D.view disk.old).may_leave }
     ensures falls { FallsAway D.view disk.old disk.new }
     ensures cause { HasCause (D.view disk.old).faults (D.view disk.new).faults
+        (IsErrOf result DiskNo.Failed) }
+    ensures counts_once { CountsOnce (D.view disk.old).faults (D.view disk.new).faults
         (IsErrOf result DiskNo.Failed) }
 {
     let mut bytes: Vec<u8> = iter::repeat_n(0, size as usize).collect(alloc)?;
@@ -74,6 +80,8 @@ pub(crate) fn gate_is_open<D: Disk>(disk: &mut D, place: u64, size: u64) -> Resu
     ensures any_moment { LeavesOnly D.view disk.old disk.new (D.view disk.old).may_leave }
     ensures falls { FallsAway D.view disk.old disk.new }
     ensures cause { HasCause (D.view disk.old).faults (D.view disk.new).faults
+        (IsErrOf result DiskNo.Failed) }
+    ensures counts_once { CountsOnce (D.view disk.old).faults (D.view disk.new).faults
         (IsErrOf result DiskNo.Failed) }
 {
     if place >= size {

@@ -1,6 +1,6 @@
 //! A journal over any disk.
 ghost use Rattle.std.specs.Prelude.{◌≡◌, ◌+◌, ◌≤◌, ◌<◌, ◌^◌, ◌⊎◌, ℕ, List, [], ◌∷◌, ◌++◌, length, IsTrue, ◌↔◌, IfOk, IfErr, OnOk, OnErr, IfSome, IsSome, IsErrOf, IsErrAnd, Err, if◌then◌else◌, option_map};
-ghost use Rattle.qc_disk.specs.Disk.{HasCause, Steps, LeavesOnly, FallsAway, Grows, written};
+ghost use Rattle.qc_disk.specs.Disk.{HasCause, CountsOnce, Steps, LeavesOnly, FallsAway, Grows, written};
 ghost use Rattle.qc_journal.specs.Image.{HasRecords, HasAt, IsBroken, behind_gate, bodies_of};
 ghost use Rattle.qc_journal.specs.State.{IsUpState, missing_at, hand_of, hand_end, hand_size};
 ghost use Rattle.qc_journal.specs.Device.{IsAlike, LeftOrAlike, made_ready};
@@ -68,6 +68,8 @@ impl<D: Disk> Journal<D> {
         ensures grows { IsSome (D.view disk).content → (index : ℕ) (body : List ℕ)
             → Grows D.view disk (disk_after result) (HasAt index body) }
         ensures cause { HasCause (D.view disk).faults (D.view (disk_after result)).faults
+            (IsErrAnd result (λ refused. refused.1 ≡ Fault.Disk)) }
+        ensures counts_once { CountsOnce (D.view disk).faults (D.view (disk_after result)).faults
             (IsErrAnd result (λ refused. refused.1 ≡ Fault.Disk)) }
     {
         let mut disk = disk;
@@ -142,6 +144,8 @@ impl<D: Disk> Journal<D> {
             → Grows D.view (disk_of self.old) (disk_of self.new) (HasAt index had) }
         ensures cause { HasCause (D.view (disk_of self.old)).faults
             (D.view (disk_of self.new)).faults (IsErrOf result Fault.Disk) }
+        ensures counts_once { CountsOnce (D.view (disk_of self.old)).faults
+            (D.view (disk_of self.new)).faults (IsErrOf result Fault.Disk) }
     {
         if !self.has_room(body) {
             return Err(Fault::Full { place: self.place });
@@ -195,6 +199,8 @@ impl<D: Disk> Journal<D> {
         ensures falls { FallsAway D.view (disk_of self.old) (disk_of self.new) }
         ensures cause { HasCause (D.view (disk_of self.old)).faults
             (D.view (disk_of self.new)).faults (IsErrOf result Fault.Disk) }
+        ensures counts_once { CountsOnce (D.view (disk_of self.old)).faults
+            (D.view (disk_of self.new)).faults (IsErrOf result Fault.Disk) }
     {
         let behind = self.behind_hand();
         let size = synced_len(&mut self.disk)?;
@@ -247,6 +253,8 @@ impl<D: Disk> Journal<D> {
             (D.view (disk_of self.old)).may_leave }
         ensures falls { FallsAway D.view (disk_of self.old) (disk_of self.new) }
         ensures cause { HasCause (D.view (disk_of self.old)).faults
+            (D.view (disk_of self.new)).faults (IsErrOf result Fault.Disk) }
+        ensures counts_once { CountsOnce (D.view (disk_of self.old)).faults
             (D.view (disk_of self.new)).faults (IsErrOf result Fault.Disk) }
     {
         self.close();

@@ -1,6 +1,6 @@
 //! The records on a disk.
 ghost use Rattle.std.specs.Prelude.{◌≡◌, ◌≤◌, ◌<◌, ◌+◌, ◌⊎◌, ℕ, List, IfOk, IfErr, IfSome, IsSome, OnOk, IsErrOf, Err, option_map};
-ghost use Rattle.qc_disk.specs.Disk.{HasCause, Within, Only, Steps, LeavesOnly, FallsAway, Grows};
+ghost use Rattle.qc_disk.specs.Disk.{HasCause, CountsOnce, Within, Only, Steps, LeavesOnly, FallsAway, Grows};
 ghost use Rattle.qc_journal.specs.Image.{EndsAt, HasRecords, HasAt, IsBroken};
 ghost use Rattle.qc_journal.specs.Device.{IsAlike, LeftOrAlike, made_ready};
 ghost use Rattle.qc_journal.specs.Fault.{IsOfReading};
@@ -25,6 +25,8 @@ pub(crate) fn read_records<D: Disk>(alloc: Global, disk: &mut D) -> Result<Found
     ensures any_moment { LeavesOnly D.view disk.old disk.new (D.view disk.old).may_leave }
     ensures falls { FallsAway D.view disk.old disk.new }
     ensures cause { HasCause (D.view disk.old).faults (D.view disk.new).faults
+        (IsErrOf result Fault.Disk) }
+    ensures counts_once { CountsOnce (D.view disk.old).faults (D.view disk.new).faults
         (IsErrOf result Fault.Disk) }
 {
     let size = synced_len(disk)?;
@@ -59,6 +61,8 @@ pub(crate) fn prepare<D: Disk>(alloc: Global, disk: &mut D) -> Result<Found, Fau
     ensures grows { IsSome (D.view disk.old).content → (index : ℕ) (body : List ℕ)
         → Grows D.view disk.old disk.new (HasAt index body) }
     ensures cause { HasCause (D.view disk.old).faults (D.view disk.new).faults
+        (IsErrOf result Fault.Disk) }
+    ensures counts_once { CountsOnce (D.view disk.old).faults (D.view disk.new).faults
         (IsErrOf result Fault.Disk) }
 {
     let found = read_records(alloc, disk)?;

@@ -50,7 +50,7 @@ impl Shop for MemShop {
     type D = MemDisk;
 
     ghost use Rattle.std.specs.Prelude.{◌≢◌, ◌↔◌, ◌++◌, ℕ, List, Some, Contains, IfOk, OnErr, IsErrOf, if◌then◌else◌};
-    ghost use Rattle.qc_disk.specs.Disk.{HasCause, next};
+    ghost use Rattle.qc_disk.specs.Disk.{HasCause, CountsOnce, next};
     ghost use Rattle.qc_disk.specs.Shop.{Tells, TellsAlike, if_given};
     ghost use Rattle.qc_disk.specs.Given.{given_list};
     ghost use Rattle.qc_disk.specs.MemDisk.{mem_bytes, mem_faults};
@@ -67,6 +67,8 @@ impl Shop for MemShop {
         ensures kept { OnErr result ((p : List ℕ) (n : ℕ)
             → TellsAlike (shop_view self.old) (shop_view self.new) p n) }
         ensures cause { HasCause (shop_faults self.old) (shop_faults self.new)
+            (IsErrOf result DiskNo.Failed) }
+        ensures counts_once { CountsOnce (shop_faults self.old) (shop_faults self.new)
             (IsErrOf result DiskNo.Failed) }
         ensures gives { IfOk result (Gives self.old self.new which) }
         ensures disks { OnErr result (shop_disks self.new ≡ shop_disks self.old) }
