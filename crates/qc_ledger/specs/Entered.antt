@@ -1,5 +1,5 @@
 -- What the ledger enters in the history, and what its disk keeps of it.
-use Rattle.std.specs.Prelude.{◌≡◌, ◌⊎◌, ℕ, length, List, [], ◌∷◌, ◌++◌, map, IsTrue, Option, None, Some}
+use Rattle.std.specs.Prelude.{◌≡◌, ◌⊎◌, ℕ, length, List, [], ◌∷◌, ◌++◌, map, IsTrue, Option, None, Some, Result, Ok, Err}
 use Rattle.std.specs.Option.{option_map}
 use Rattle.qc_disk.specs.declared.disk.Disk.{Ghosts}
 use Rattle.qc_event.specs.declared.event.Entry.{Entry}
@@ -118,3 +118,12 @@ pub record GrowsBy (body : List ℕ) (left : List ℕ → Type 0) (image : List 
   pub bodies : List (List ℕ)
   pub had : HasRecords bodies earlier
   pub has : HasOrMore bodies body image
+
+-- A top whose record would pass the limit at a place is not logged: nothing is entered where it had ended, and else it is
+-- refused for that, or for want of memory or of room.
+abbrev pub RefusesLong : ℕ → Past → Past → Result (Unit {0}) LedgerNo → Type 0
+RefusesLong place old new (Ok answer) = new ≡ old
+RefusesLong place old new (Err no.Disk) = ⊥
+RefusesLong place old new (Err (no.Image bad)) = ⊥
+RefusesLong place old new (Err (no.Full at)) = at ≡ place
+RefusesLong place old new (Err (no.Short short)) = Unit {0}

@@ -15,6 +15,12 @@ abbrev pub IsWantNo : LedgerNo → Type 0
 IsWantNo (Short short) = Unit {0}
 IsWantNo _ = ⊥
 
+-- there may have been two faults of the disk: it is told, or memory or room was wanting to enter it
+abbrev pub MayCostTwo : LedgerNo → Type 0
+MayCostTwo Disk = Unit {0}
+MayCostTwo (Short short) = Unit {0}
+MayCostTwo _ = ⊥
+
 -- the ledger's image is refused
 abbrev pub image_no : ImageFault → LedgerNo
 image_no f = Image (record { disk = 0; fault = f })

@@ -1,7 +1,7 @@
 -- What a run of calls on a journal leaves, and what it costs.
-use Rattle.std.specs.Prelude.{◌≡◌, ◌≤◌, ◌⊎◌, ℕ, List, [], ◌∷◌, ◌++◌, Vec}
+use Rattle.std.specs.Prelude.{◌≡◌, ◌≤◌, ◌⊎◌, ℕ, ◌+◌, List, [], ◌∷◌, ◌++◌, Vec}
 use Rattle.std.specs.declared.alloc.Global.{Global}
-use Rattle.qc_disk.specs.Disk.{FallsAway, Grows, HasCause, LeavesOnly, next}
+use Rattle.qc_disk.specs.Disk.{CountsOnce, FallsAway, Grows, HasCause, LeavesOnly, next}
 use Rattle.qc_disk.specs.declared.disk.Disk.{Ghosts}
 use Rattle.qc_journal.specs.Image.{HasAt, HasRecords, bodies_of}
 use Rattle.qc_journal.specs.Journal.{Keeps, disk_of, limit_of, place_of}
@@ -15,6 +15,11 @@ HasOrMore bodies more image = HasRecords bodies image ⊎ HasRecords (bodies ++ 
 -- it rose twice
 abbrev pub RoseTwice : ℕ → ℕ → Type 0
 RoseTwice before now = next (next before) ≤ now
+
+-- A count rose by two at most, and by one at most where this is not so.
+pub record CountsTwice (before now : ℕ) (Twice : Type 0) : Type 0 where
+  pub twice : now ≤ before + 2
+  pub once : (Twice → ⊥) → now ≤ before + 1
 
 module _ {D : Type 0} {g : Ghosts D} (journal : Journal D g) (bodies : Vec (Vec ℕ Global) Global) where
   -- it keeps the records of these bodies
@@ -57,3 +62,11 @@ module _ {D : Type 0} {g : Ghosts D} (old new : Journal D g) where
   -- the disk's count of faults rose twice
   abbrev pub CostsTwo : Type 0
   CostsTwo = RoseTwice (g.view (disk_of old)).faults (g.view (disk_of new)).faults
+
+  -- the disk's count of faults rose by one at most, and only where this failed
+  abbrev pub CostsOnce : Type 0 → Type 0
+  CostsOnce Failed = CountsOnce (g.view (disk_of old)).faults (g.view (disk_of new)).faults Failed
+
+  -- the disk's count of faults rose by two at most, and by one at most where this is not so
+  abbrev pub CostsTwice : Type 0 → Type 0
+  CostsTwice Twice = CountsTwice (g.view (disk_of old)).faults (g.view (disk_of new)).faults Twice

@@ -1,5 +1,5 @@
 //! The ledger over a desk: a top's record stands on the disk before its commit is entered.
-ghost use Rattle.std.specs.Prelude.{◌≡◌, ◌≤◌, ◌⊎◌, ◌∷◌, ◌++◌, ℕ, List, [], IfErr, OnOk, OnErr, IsErrOf, IsTrue, None, Some, Err, true, length, is_some};
+ghost use Rattle.std.specs.Prelude.{◌≡◌, ◌≤◌, ◌⊎◌, ◌∷◌, ◌++◌, ℕ, List, [], IfErr, OnOk, OnErr, IsErrAnd, IsErrOf, IsTrue, None, Some, Err, true, length, is_some};
 ghost use Rattle.std.specs.Bool.{OnFalse, OnTrue};
 ghost use Rattle.qc_codec.specs.Bodies as body;
 ghost use Rattle.qc_codec.specs.declared.record.LedgerRecord.TheVariants.{Top};
@@ -10,11 +10,11 @@ ghost use Rattle.qc_event.specs.Seats.{ledger_seat};
 ghost use Rattle.qc_event.specs.Tables.{setting_of};
 ghost use Rattle.qc_desk.specs.Entries.{entries_of, IsOlder};
 ghost use Rattle.qc_desk.specs.Known.{IsKnown};
-ghost use Rattle.qc_journal.specs.Journal.{disk_of, limit_of, place_of, IsTooLong, IsUp, Keeps};
+ghost use Rattle.qc_journal.specs.Journal.{disk_of, limit_of, place_of, IsDown, IsTooLong, IsUp, Keeps};
 ghost use Rattle.qc_ledger.specs.Entered.{MayFinish, SeesMore};
-ghost use Rattle.qc_ledger.specs.Refusing.{IsWantNo};
-ghost use Rattle.qc_ledger.specs.Runs.{HasOrMore, Leaves, LosesNone, Falls, GoesOn, Costs, CostsTwo};
-ghost use Rattle.qc_ledger.specs.Shelf.{journal_in, top_in, top_body, LogLeaves, IsDeviceNo, IsIdle};
+ghost use Rattle.qc_ledger.specs.Refusing.{IsWantNo, MayCostTwo};
+ghost use Rattle.qc_ledger.specs.Runs.{HasOrMore, Leaves, LosesNone, Falls, GoesOn, Costs, CostsOnce, CostsTwice, CostsTwo};
+ghost use Rattle.qc_ledger.specs.Shelf.{journal_in, top_in, top_body, LogLeaves, IsDeviceNo, IsIdle, IsRefusedFor};
 ghost use Rattle.qc_ledger.specs.Since.{IsNext};
 ghost use Rattle.qc_ledger.specs.declared.fault.LedgerNo.TheVariants.{Disk, Full};
 
@@ -39,7 +39,7 @@ pub struct Ledger<D: Disk, N: Store> {
 }
 
 impl<D: Disk, N: Store> Ledger<D, N> {
-    ghost use Rattle.qc_ledger.specs.Entered.{commits_of, tops_of, unlogged_entry, CommitsHand, EntersTop, IsLogNo, KeepsLogged, IsReviveNo, RefusalEnters};
+    ghost use Rattle.qc_ledger.specs.Entered.{commits_of, tops_of, unlogged_entry, CommitsHand, EntersTop, IsLogNo, KeepsLogged, IsReviveNo, RefusalEnters, RefusesLong};
     ghost use Rattle.qc_ledger.specs.Calls.{ledger_state, HasLogged, LedgerBecame, LedgerWroteNone};
 
     // Commits the top in hand, whose record stands.
@@ -89,7 +89,11 @@ impl<D: Disk, N: Store> Ledger<D, N> {
         ensures falls { Falls (journal_in self.old.shelf) (journal_in self.new.shelf) }
         ensures cause { Costs (journal_in self.old.shelf) (journal_in self.new.shelf)
             (IsErrOf result Disk) }
-        ensures was_down { IsUp (journal_in self.old.shelf) → IsErrOf result Disk → ⊥ }
+        ensures counts_once { CostsOnce (journal_in self.old.shelf) (journal_in self.new.shelf)
+            (IsErrOf result Disk) }
+        ensures idle { IsUp (journal_in self.old.shelf)
+            → (OnErr result ⊥) × (self.new.shelf ≡ self.old.shelf) }
+        ensures down { OnErr result (IsDown (journal_in self.new.shelf)) }
     {
         if self.shelf.is_up() {
             return Ok(());
@@ -118,12 +122,17 @@ impl<D: Disk, N: Store> Ledger<D, N> {
         ensures full { (place : ℕ) → result ≡ Err (Full place)
             → IsTooLong (place_of (journal_in self.old.shelf)) (limit_of (journal_in self.old.shelf))
             (top_body top.now aborted.now) }
+        ensures too_long { IsTooLong (place_of (journal_in self.old.shelf))
+            (limit_of (journal_in self.old.shelf)) (top_body top.now aborted.now)
+            → IsRefusedFor (Full (place_of (journal_in self.old.shelf))) result }
         ensures any_moment { (bodies : List (List ℕ)) → Keeps (journal_in self.old.shelf) bodies
             → Leaves (journal_in self.old.shelf) (journal_in self.new.shelf)
             (HasOrMore bodies (top_body top.now aborted.now)) }
         ensures grows { (bodies : List (List ℕ)) → Keeps (journal_in self.old.shelf) bodies
             → LosesNone (journal_in self.old.shelf) (journal_in self.new.shelf) }
         ensures cause { Costs (journal_in self.old.shelf) (journal_in self.new.shelf)
+            (IsErrOf result Disk) }
+        ensures counts_twice { CostsTwice (journal_in self.old.shelf) (journal_in self.new.shelf)
             (IsErrOf result Disk) }
         ensures twice { IsErrOf result Disk
             → CostsTwo (journal_in self.old.shelf) (journal_in self.new.shelf) }
@@ -216,10 +225,17 @@ impl<D: Disk, N: Store> Ledger<D, N> {
         ensures full { (place : ℕ) → result ≡ Err (Full place) → IsIdle self.new.shelf place
             × IsTooLong place (limit_of (journal_in self.old.shelf))
             (top_body top.now aborted.now) }
+        ensures too_long { IsUp (journal_in self.old.shelf) → top_in self.old.shelf ≡ None
+            → IsTooLong (place_of (journal_in self.old.shelf)) (limit_of (journal_in self.old.shelf))
+            (top_body top.now aborted.now) → RefusesLong (place_of (journal_in self.old.shelf))
+            self.old.pass.mine self.new.pass.mine result }
+        ensures down { IsErrOf result Disk → IsDown (journal_in self.new.shelf) }
         ensures became { LedgerBecame (Some (record { top = top.now; aborted = aborted.now }))
             (ledger_state self.old) (ledger_state self.new) }
         ensures seer { SeesMore seer.old seer.new }
         ensures cause { Costs (journal_in self.old.shelf) (journal_in self.new.shelf)
+            (IsErrOf result Disk) }
+        ensures counts_twice { CostsTwice (journal_in self.old.shelf) (journal_in self.new.shelf)
             (IsErrOf result Disk) }
         ensures twice { IsUp (journal_in self.old.shelf) → IsErrOf result Disk
             → CostsTwo (journal_in self.old.shelf) (journal_in self.new.shelf) }
@@ -250,7 +266,8 @@ impl<D: Disk, N: Store> Ledger<D, N> {
         requires proper { body.ledger.fits (Top top.now aborted.now) }
 
         // At an error what was entered is at most the commit of the top in hand, and then that this top was not logged. Full
-        // comes only where the record would pass the limit at its place; the ledger is up then, with nothing in hand.
+        // comes where the record would pass the limit at its place, and nowhere else; the ledger is up then, with nothing in
+        // hand. After a fault of the disk it is down.
         ensures logged { OnOk result
             (HasLogged top.now (ledger_state self.old) (ledger_state self.new)) }
         ensures refused { IfErr result (λ refusal. RefusalEnters refusal
@@ -259,13 +276,21 @@ impl<D: Disk, N: Store> Ledger<D, N> {
         ensures full { (place : ℕ) → result ≡ Err (Full place) → IsIdle self.new.shelf place
             × IsTooLong place (limit_of (journal_in self.old.shelf))
             (top_body top.now aborted.now) }
+        ensures too_long { IsUp (journal_in self.old.shelf) → top_in self.old.shelf ≡ None
+            → IsTooLong (place_of (journal_in self.old.shelf)) (limit_of (journal_in self.old.shelf))
+            (top_body top.now aborted.now) → RefusesLong (place_of (journal_in self.old.shelf))
+            self.old.pass.mine self.new.pass.mine result }
+        ensures down { IsErrOf result Disk → IsDown (journal_in self.new.shelf) }
         ensures became { LedgerBecame (Some (record { top = top.now; aborted = aborted.now }))
             (ledger_state self.old) (ledger_state self.new) }
         ensures seer { SeesMore seer.old seer.new }
 
-        // A fault of the disk is told only where its count of faults rose, by two where the ledger was up.
+        // A fault of the disk is told only where its count of faults rose, by two where the ledger was up. There are at most
+        // two, and at most one where the top was logged or the ledger is full.
         ensures cause { Costs (journal_in self.old.shelf) (journal_in self.new.shelf)
             (IsErrOf result Disk) }
+        ensures counts_twice { CostsTwice (journal_in self.old.shelf) (journal_in self.new.shelf)
+            (IsErrAnd result MayCostTwo) }
         ensures twice { IsUp (journal_in self.old.shelf) → IsErrOf result Disk
             → CostsTwo (journal_in self.old.shelf) (journal_in self.new.shelf) }
     {
@@ -294,6 +319,8 @@ impl<D: Disk, N: Store> Ledger<D, N> {
         ensures became { LedgerBecame None (ledger_state self.old) (ledger_state self.new) }
         ensures wrote_none { LedgerWroteNone (ledger_state self.old) (ledger_state self.new) }
         ensures cause { Costs (journal_in self.old.shelf) (journal_in self.new.shelf)
+            (IsErrOf result Disk) }
+        ensures counts_once { CostsOnce (journal_in self.old.shelf) (journal_in self.new.shelf)
             (IsErrOf result Disk) }
     {
         self.rise()?;

@@ -1,6 +1,6 @@
 //! Mounting the ledger.
 ghost use Rattle.std.specs.Prelude.{ℕ, ◌≡◌, ◌<◌, ◌+◌, [], ◌∷◌, ◌++◌, List, IfOk, IfErr, IsSome, OnOk, OnErr, IsErrOf, IsErrAnd, Err};
-ghost use Rattle.qc_disk.specs.Disk.{HasCause, LeavesOnly, Grows};
+ghost use Rattle.qc_disk.specs.Disk.{CountsOnce, HasCause, LeavesOnly, Grows};
 ghost use Rattle.qc_codec.specs.Bodies as body;
 ghost use Rattle.qc_codec.specs.Ledger.{past_in};
 ghost use Rattle.qc_journal.specs.Image.{HasAt, bodies_of};
@@ -9,7 +9,7 @@ ghost use Rattle.qc_journal.specs.declared.fault.Fault.TheVariants.{Full};
 ghost use Rattle.qc_ledger.specs.Image.{made_body, epoch_body, made_where_none, to_write, AreMountableAsLedger, IsLedgerFault, AreLedgers, LAST_EPOCH};
 ghost use Rattle.qc_ledger.specs.Refusing.{IsLedgerRefusal, IsOfLedgerImage, IsOfBytes, IsOfWriting};
 ghost use Rattle.qc_ledger.specs.Mounted.{MountsLedger, MountLeaves, journal_of, records_of, disk_after, HasSome};
-ghost use Rattle.qc_ledger.specs.Runs.{Costs, HasMore, HaveRoomBehind, IsFullBehind, KeepsAll, Leaves, LosesNone};
+ghost use Rattle.qc_ledger.specs.Runs.{Costs, CostsOnce, HasMore, HaveRoomBehind, IsFullBehind, KeepsAll, Leaves, LosesNone};
 
 use crate::book::Book;
 use crate::fault::{LedgerNo, mount_no};
@@ -38,6 +38,7 @@ fn write<D: Disk>(journal: &mut Journal<D>, bodies: &mut Vec<Body>, next: Body) 
         → Leaves journal.old journal.new (HasSome (bodies_of bodies.old.items) (next.items ∷ [])) }
     ensures grows { KeepsAll journal.old bodies.old → LosesNone journal.old journal.new }
     ensures cause { Costs journal.old journal.new (IsErrOf result Fault.Disk) }
+    ensures counts_once { CostsOnce journal.old journal.new (IsErrOf result Fault.Disk) }
 {
     journal.append(&next)?;
     append_moved(bodies, next)?;
@@ -68,6 +69,7 @@ pub fn make<D: Disk>(
         (made_where_none made.items (bodies_of bodies.old.items))) }
     ensures grows { KeepsAll journal.old bodies.old → LosesNone journal.old journal.new }
     ensures cause { Costs journal.old journal.new (IsErrOf result Fault.Disk) }
+    ensures counts_once { CostsOnce journal.old journal.new (IsErrOf result Fault.Disk) }
 {
     if bodies.is_empty() {
         return write(journal, bodies, made);
@@ -101,6 +103,7 @@ fn write_both<D: Disk>(
         (made_where_none made.items (bodies_of bodies.old.items) ++ epoch.items ∷ [])) }
     ensures grows { KeepsAll journal.old bodies.old → LosesNone journal.old journal.new }
     ensures cause { Costs journal.old journal.new (IsErrOf result Fault.Disk) }
+    ensures counts_once { CostsOnce journal.old journal.new (IsErrOf result Fault.Disk) }
 {
     make(journal, bodies, made)?;
     write(journal, bodies, epoch)
@@ -166,6 +169,7 @@ fn begin<D: Disk>(
         (to_write table.now (bodies_of bodies.old.items))) }
     ensures grows { KeepsAll journal.old bodies.old → LosesNone journal.old journal.new }
     ensures cause { Costs journal.old journal.new (IsErrOf result LedgerNo.Disk) }
+    ensures counts_once { CostsOnce journal.old journal.new (IsErrOf result LedgerNo.Disk) }
 {
     let Plan { past, made, epoch } = plan_of(alloc, bodies, table)?;
     match write_both(journal, bodies, made, epoch) {
@@ -203,6 +207,8 @@ pub fn mount<D: Disk>(
     ensures grows { IsSome (D.view disk).content → (index : ℕ) (had : List ℕ)
         → Grows D.view disk (disk_after result) (HasAt index had) }
     ensures cause { HasCause (D.view disk).faults (D.view (disk_after result)).faults
+        (IsErrAnd result (λ refused. refused.1 ≡ LedgerNo.Disk)) }
+    ensures counts_once { CountsOnce (D.view disk).faults (D.view (disk_after result)).faults
         (IsErrAnd result (λ refused. refused.1 ≡ LedgerNo.Disk)) }
 {
     let (mut journal, mut bodies) = match Journal::mount(alloc, disk, limit) {

@@ -3,7 +3,7 @@ ghost use Rattle.std.specs.Prelude.{◌≡◌, ◌↔◌, ◌+◌, ℕ, List, []
 ghost use Rattle.qc_codec.specs.Bodies as body;
 ghost use Rattle.qc_codec.specs.declared.record.LedgerRecord.TheVariants.{Top};
 ghost use Rattle.qc_journal.specs.Journal.{behind_hand, disk_of, in_hand, limit_of, place_of, with_hand, IsDown, IsTooLong, IsUp, Keeps};
-ghost use Rattle.qc_ledger.specs.Runs.{HasOrMore, Leaves, LosesNone, Falls, Costs, CostsTwo};
+ghost use Rattle.qc_ledger.specs.Runs.{HasOrMore, Leaves, LosesNone, Falls, Costs, CostsOnce, CostsTwice, CostsTwo};
 ghost use Rattle.qc_ledger.specs.declared.fault.LedgerNo.TheVariants.{Disk, Full};
 
 use crate::fault::{LedgerNo, log_no};
@@ -65,6 +65,7 @@ impl<D: Disk> Shelf<D> {
             → Keeps (journal_in self.old) bodies
             → Keeps (journal_in self.new) (if stands then with_hand bodies (in_hand (journal_in self.old)) else bodies)) }
         ensures refused { IfErr result IsDeviceNo }
+        ensures down { OnErr result (IsDown (journal_in self.new)) }
         ensures hand_err { OnErr result (top_in self.new ≡ top_in self.old) }
         ensures in_journal { OnErr result (in_hand (journal_in self.new) ≡ in_hand
             (journal_in self.old)) }
@@ -80,6 +81,8 @@ impl<D: Disk> Shelf<D> {
             (D.view (disk_of (journal_in self.old))).may_leave }
         ensures falls { Falls (journal_in self.old) (journal_in self.new) }
         ensures cause { Costs (journal_in self.old) (journal_in self.new) (IsErrOf result Disk) }
+        ensures counts_once { CostsOnce (journal_in self.old) (journal_in self.new)
+            (IsErrOf result Disk) }
     {
         match self.journal.reopen() {
             Ok(true) => Ok(true),
@@ -112,6 +115,8 @@ impl<D: Disk> Shelf<D> {
         ensures grows { (bodies : List (List ℕ)) → Keeps (journal_in self.old) bodies
             → LosesNone (journal_in self.old) (journal_in self.new) }
         ensures cause { Costs (journal_in self.old) (journal_in self.new) (IsErrOf result Disk) }
+        ensures counts_once { CostsOnce (journal_in self.old) (journal_in self.new)
+            (IsErrOf result Disk) }
     {
         match self.journal.append(bytes) {
             Ok(()) => {
@@ -148,6 +153,8 @@ impl<D: Disk> Shelf<D> {
         ensures grows { (bodies : List (List ℕ)) → Keeps (journal_in self.old) bodies
             → LosesNone (journal_in self.old) (journal_in self.new) }
         ensures cause { Costs (journal_in self.old) (journal_in self.new) (IsErrOf result Disk) }
+        ensures counts_once { CostsOnce (journal_in self.old) (journal_in self.new)
+            (IsErrOf result Disk) }
     {
         if self.revive()? {
             return Ok(());
@@ -176,6 +183,8 @@ impl<D: Disk> Shelf<D> {
         ensures grows { (bodies : List (List ℕ)) → Keeps (journal_in self.old) bodies
             → LosesNone (journal_in self.old) (journal_in self.new) }
         ensures cause { Costs (journal_in self.old) (journal_in self.new) (IsErrOf result Disk) }
+        ensures counts_twice { CostsTwice (journal_in self.old) (journal_in self.new)
+            (IsErrOf result Disk) }
         ensures twice { IsErrOf result Disk → CostsTwo (journal_in self.old) (journal_in self.new) }
     {
         match self.write(top, bytes) {
@@ -224,6 +233,8 @@ impl<D: Disk> Shelf<D> {
 
         // A fault of the disk is told only after two.
         ensures cause { Costs (journal_in self.old) (journal_in self.new) (IsErrOf result Disk) }
+        ensures counts_twice { CostsTwice (journal_in self.old) (journal_in self.new)
+            (IsErrOf result Disk) }
         ensures twice { IsErrOf result Disk → CostsTwo (journal_in self.old) (journal_in self.new) }
     {
         let record = write_top(self.alloc, top, aborted)?;
