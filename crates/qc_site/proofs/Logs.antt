@@ -14,7 +14,7 @@ use Rattle.std.proofs.lemmas.Option.{same_Some}
 use Rattle.qc_disk.specs.declared.disk.Disk.{Ghosts}
 use Rattle.qc_event.specs.declared.event.Grant.{Grant}
 use Rattle.qc_journal.specs.Image.{HasRecords}
-use Rattle.qc_disk.specs.Disk.{HasCause, IsImage}
+use Rattle.qc_disk.specs.Disk.{CountsOnce, HasCause, IsImage}
 use Rattle.qc_journal.specs.declared.fault.Fault.{Fault}
 use Rattle.qc_journal.specs.declared.fault.Fault.TheVariants as fault
 use Rattle.qc_journal.specs.Journal.{in_hand, with_hand, AppendLeaves, IsDown, IsUp, Keeps, TakesInHand}
@@ -348,6 +348,10 @@ cause_on a b c First Then one two = record {
   later = omega (arith, one.later, two.later);
   failed = λ failed. let rose = two.failed failed in omega (arith, one.later, rose);
 }
+
+-- over two runs of which the first did not raise it
+pub once_on : (a b c : ℕ) (Then : Type 0) → b ≡ a → CountsOnce b c Then → CountsOnce a c Then
+once_on a b c Then same two = record { once = omega (arith, same, two.once); spared = λ never. two.spared never ∙ same }
 
 -- at first nothing was granted
 pub first_over : {D : Type 0} {g : Ghosts D} (before : List (List ℕ)) (log : GrantLog D g) → (IsDown log.journal → ⊥) → Keeps log.journal before → log.earlier ≡ length before → IsOver before log [] None

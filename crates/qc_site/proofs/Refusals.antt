@@ -54,55 +54,64 @@ down_is_disk old new (fault.Full place) e left is failed = absurd (let one : e �
 down_is_disk old new fault.Memory e left is failed = absurd (let one : e ≡ no_serve.Down = cc in let other : no_serve.Short short.Memory ≡ no_serve.Down = sym is ∙ one in cc)
 
 -- what a fault of the journal says to a request
-pub write_says : {D : Type 0} {g : Ghosts D} (old : GrantLog D g) (new : SiteState g) (was : Standing) (f : Fault) (e : ServeNo) (ask : Ask) (tuple : Tuple) (grant : Grant) → WriteLeaves old new.log f → e ≡ of_fault f → IsUp old.journal → was.up ≡ true
+pub write_says : {D : Type 0} {g : Ghosts D} (old : GrantLog D g) (new : SiteState g) (was : Standing) (f : Fault) (e : ServeNo) → WriteLeaves old new.log f → e ≡ of_fault f → IsUp old.journal → was.up ≡ true
     → ((IsUp new.log.journal) × (new.replica.hand ≡ None) × (new.replica.up ≡ was.up)) ⊎ ((IsDown new.log.journal) × (new.replica.hand ≡ was.hand) × (new.replica.up ≡ false))
-    → ((place : ℕ) → f ≡ fault.Full place → IsTooLong (place_of old.journal) (limit_of old.journal) (grant_body old.copies grant)) → new.log.copies ≡ old.copies → grant ≡ grant_with ask tuple → ServeSays ask new e
-write_says {D} {g} old new was f e ask tuple grant left is up stood fallen long copies same = subst (ServeSays ask new) (sym is) (by f left long)
+    → ServeSays new e
+write_says {D} {g} old new was f e left is up stood fallen = subst (ServeSays new) (sym is) (by f left)
   where
-    by : (f : Fault) → WriteLeaves old new.log f → ((place : ℕ) → f ≡ fault.Full place → IsTooLong (place_of old.journal) (limit_of old.journal) (grant_body old.copies grant)) → ServeSays ask new (of_fault f)
-    by fault.Disk down long = elim fallen [ inl u ↦ absurd (down u.0) | inr d ↦ d.2 ]
-    by (fault.Broken place) never long = absurd never
-    by (fault.Full place) left long = (
-      (
-        tuple,
-        subst (λ (j : Journal D g). IsTooLong (place_of j) (limit_of j) (grant_body new.log.copies (grant_with ask tuple))) (sym left)
-            (subst (λ (x : Grant). IsTooLong (place_of old.journal) (limit_of old.journal) (grant_body new.log.copies x)) same
-            (subst (λ n. IsTooLong (place_of old.journal) (limit_of old.journal) (grant_body n grant)) (sym copies) (long place refl))),
-      ),
-      elim fallen [
-        | inl u ↦ record { up = u.2 ∙ stood; none = u.1 }
-        | inr d ↦ absurd (d.0 (subst (λ (j : Journal D g). IsUp j) (sym left) up))
-      ],
-    )
-    by fault.Memory left long = tt
+    by : (f : Fault) → WriteLeaves old new.log f → ServeSays new (of_fault f)
+    by fault.Disk down = elim fallen [ inl u ↦ absurd (down u.0) | inr d ↦ d.2 ]
+    by (fault.Broken place) never = absurd never
+    by (fault.Full place) left = elim fallen [
+      | inl u ↦ record { up = u.2 ∙ stood; none = u.1 }
+      | inr d ↦ absurd (d.0 (subst (λ (j : Journal D g). IsUp j) (sym left) up))
+    ]
+    by fault.Memory left = tt
+
+-- a request is told that a copy is full where the record would pass the limit
+pub write_full : {D : Type 0} {g : Ghosts D} {T : Type 0} (old new : GrantLog D g) (f : Fault) (e : ServeNo) (ask : Ask) (tuple : Tuple) (grant : Grant) → WriteLeaves old new f → e ≡ of_fault f
+    → ((place : ℕ) → f ≡ fault.Full place → IsTooLong (place_of old.journal) (limit_of old.journal) (grant_body old.copies grant)) → new.copies ≡ old.copies → grant ≡ grant_with ask tuple
+    → IsErrOf {T = T} (Err e) no_serve.Full → IsTooLong (place_of new.journal) (limit_of new.journal) (grant_body new.copies (grant_with ask tuple))
+write_full {D} {g} old new f e ask tuple grant left is long copies same failed = let one : e ≡ no_serve.Full = cc in by f left long (sym is ∙ one)
+  where
+    by : (f : Fault) → WriteLeaves old new f → ((place : ℕ) → f ≡ fault.Full place → IsTooLong (place_of old.journal) (limit_of old.journal) (grant_body old.copies grant)) → of_fault f ≡ no_serve.Full
+        → IsTooLong (place_of new.journal) (limit_of new.journal) (grant_body new.copies (grant_with ask tuple))
+    by fault.Disk left long at = absurd cc
+    by (fault.Broken place) left long at = absurd left
+    by (fault.Full place) left long at =
+        subst (λ (j : Journal D g). IsTooLong (place_of j) (limit_of j) (grant_body new.copies (grant_with ask tuple))) (sym left)
+        (subst (λ (x : Grant). IsTooLong (place_of old.journal) (limit_of old.journal) (grant_body new.copies x)) same
+        (subst (λ n. IsTooLong (place_of old.journal) (limit_of old.journal) (grant_body n grant)) (sym copies) (long place refl)))
+    by fault.Memory left long at = absurd cc
 
 -- what want of memory or of room says to a request
-pub short_says : {D T : Type 0} {g : Ghosts D} (ask : Ask) (new : SiteState g) (want : Wanting) (r : Result T ServeNo) → IsErrAnd r (λ e. e ≡ no_serve.Short want) → IsWant new.replica.pass.seen want → IfErr r (ServeSays ask new)
-short_says ask new want (Ok x) is wanted = tt
-short_says ask new want (Err e) is wanted = subst (ServeSays ask new) (sym is) wanted
+pub short_says : {D T : Type 0} {g : Ghosts D} (new : SiteState g) (want : Wanting) (r : Result T ServeNo) → IsErrAnd r (λ e. e ≡ no_serve.Short want) → IsWant new.replica.pass.seen want → IfErr r (ServeSays new)
+short_says new want (Ok x) is wanted = tt
+short_says new want (Err e) is wanted = subst (ServeSays new) (sym is) wanted
 
 -- what a refused revival says to a request
-pub site_says : {D : Type 0} {g : Ghosts D} (ask : Ask) (new : SiteState g) (refused : SiteNo) (e : ServeNo) → e ≡ of_site refused → ReviveSays new refused → ServeSays ask new e
-site_says ask new refused e is says = subst (ServeSays ask new) (sym is) (by refused says)
+pub site_says : {D : Type 0} {g : Ghosts D} (new : SiteState g) (refused : SiteNo) (e : ServeNo) → e ≡ of_site refused → ReviveSays new refused → ServeSays new e
+site_says new refused e is says = subst (ServeSays new) (sym is) (by refused says)
   where
-    by : (r : SiteNo) → ReviveSays new r → ServeSays ask new (of_site r)
+    by : (r : SiteNo) → ReviveSays new r → ServeSays new (of_site r)
     by Disk s = s
     by (Image bad) s = absurd s
     by Strange s = s
     by (Short want) s = s
 
--- it is no fault of the disk
-pub short_not_down : {T : Type 0} (want : Wanting) (r : Result T ServeNo) → IsErrAnd r (λ e. e ≡ no_serve.Short want) → IsErrOf r no_serve.Down → ⊥
-short_not_down want (Ok x) is failed = absurd cc
-short_not_down want (Err e) is failed =
-    let one : e ≡ no_serve.Down = cc in
-    let never : no_serve.Short want ≡ no_serve.Down = sym is ∙ one in
-    cc
+-- it is no other refusal
+pub short_not : {T : Type 0} (want : Wanting) (other : ServeNo) (r : Result T ServeNo) → (no_serve.Short want ≡ other → ⊥) → IsErrAnd r (λ e. e ≡ no_serve.Short want) → IsErrOf r other → ⊥
+short_not want other (Ok x) apart is failed = absurd cc
+short_not want other (Err e) apart is failed = let one : e ≡ other = cc in apart (sym is ∙ one)
 
--- what is handed on is down where that is which it is handed
-pub same_down : {T S : Type 0} (r : Result T ServeNo) (refusal : ServeNo) → IsErrAnd r (λ e. e ≡ refusal) → IsErrOf r no_serve.Down → IsErrOf {T = S} (Err refusal) no_serve.Down
-same_down (Ok x) refusal is failed = absurd cc
-same_down (Err e) refusal is failed = let one : e ≡ no_serve.Down = cc in ap (λ x. Err x) (sym is ∙ one)
+-- what is handed on is a refusal where that is what is handed
+pub same_refusal : {T S : Type 0} (r : Result T ServeNo) (refusal other : ServeNo) → IsErrAnd r (λ e. e ≡ refusal) → IsErrOf r other → IsErrOf {T = S} (Err refusal) other
+same_refusal (Ok x) refusal other is failed = absurd cc
+same_refusal (Err e) refusal other is failed = let one : e ≡ other = cc in ap (λ x. Err x) (sym is ∙ one)
+
+pub handed_refusal : {T S : Type 0} (r : Result T ServeNo) (refusal other : ServeNo) → IsErrAnd r (λ e. e ≡ refusal) → IsErrOf {T = S} (Err refusal) other → IsErrOf r other
+handed_refusal (Ok x) refusal other is failed = absurd is
+handed_refusal (Err e) refusal other is failed = let one : refusal ≡ other = cc in ap (λ x. Err x) (is ∙ one)
 
 -- a site is down where the disk failed
 pub site_down : {T S : Type 0} (refusal : SiteNo) (e : ServeNo) → e ≡ of_site refusal → IsErrOf {T = T} (Err e) no_serve.Down → IsErrOf {T = S} (Err refusal) Disk
@@ -115,3 +124,21 @@ site_down refusal e is failed =
     by_case (Image bad) at = cc
     by_case Strange at = cc
     by_case (Short want) at = cc
+
+-- and where the disk failed it is down
+pub disk_is_down : {T S : Type 0} (refusal : SiteNo) (e : ServeNo) → e ≡ of_site refusal → IsErrOf {T = S} (Err refusal) Disk → IsErrOf {T = T} (Err e) no_serve.Down
+disk_is_down refusal e is failed = let one : refusal ≡ Disk = cc in ap (λ x. Err x) (is ∙ ap of_site one)
+
+-- a revival is refused for no want of room on the disk
+pub site_not_full : {T : Type 0} (refusal : SiteNo) (e : ServeNo) → e ≡ of_site refusal → IsErrOf {T = T} (Err e) no_serve.Full → ⊥
+site_not_full refusal e is failed = let one : e ≡ no_serve.Full = cc in by refusal (sym is ∙ one)
+  where
+    by : (r : SiteNo) → of_site r ≡ no_serve.Full → ⊥
+    by Disk at = cc
+    by (Image bad) at = cc
+    by Strange at = cc
+    by (Short want) at = cc
+
+-- a copy is down where its journal failed
+pub fault_is_down : {T S : Type 0} (f : Fault) (e : ServeNo) → e ≡ of_fault f → IsErrOf {T = S} (Err f) fault.Disk → IsErrOf {T = T} (Err e) no_serve.Down
+fault_is_down f e is failed = let one : f ≡ fault.Disk = cc in ap (λ x. Err x) (is ∙ ap of_fault one)

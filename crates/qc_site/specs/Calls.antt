@@ -16,7 +16,7 @@ use Rattle.qc_site.specs.AtDesk.{IsGranted}
 use Rattle.qc_site.specs.Log.{log_journal}
 use Rattle.qc_site.specs.Replica.{Standing}
 use Rattle.qc_site.specs.Since.{GrantsGrow}
-use Rattle.qc_site.specs.Sites.{AnswerEnters, GrowsByGrant, IsFullFor, KeepsGranted}
+use Rattle.qc_site.specs.Sites.{AnswerEnters, GrowsByGrant, KeepsGranted}
 use Rattle.qc_site.specs.declared.fault.SiteNo.{SiteNo}
 use Rattle.qc_site.specs.declared.fault.SiteNo.TheVariants as no_site
 use Rattle.qc_site.specs.declared.log.GrantLog.{GrantLog}
@@ -83,13 +83,13 @@ module _ {D : Type 0} {g : Ghosts D} where
   ReviveSays new no_site.Strange = new.strange ≡ true
   ReviveSays new (no_site.Short short) = IsWant new.replica.pass.seen short
 
-  -- what it says that a request was not answered by the desk: that the copy is down, that the record would pass the limit and
-  -- the copy can serve others, or that it is strange
-  abbrev pub ServeSays : Ask → SiteState g → ServeNo → Type 0
-  ServeSays ask new no_serve.Down = new.replica.up ≡ false
-  ServeSays ask new no_serve.Full = IsFullFor ask new.log × CanServe new.replica
-  ServeSays ask new no_serve.Strange = new.strange ≡ true
-  ServeSays ask new (no_serve.Short short) = IsWant new.replica.pass.seen short
+  -- what it says that a request was not answered by the desk: that the copy is down, that it is full and can serve others, or
+  -- that it is strange
+  abbrev pub ServeSays : SiteState g → ServeNo → Type 0
+  ServeSays new no_serve.Down = new.replica.up ≡ false
+  ServeSays new no_serve.Full = CanServe new.replica
+  ServeSays new no_serve.Strange = new.strange ≡ true
+  ServeSays new (no_serve.Short short) = IsWant new.replica.pass.seen short
 
   -- what an answer rests on, beside its entry
   abbrev pub AnswerRests : ℕ → Ask → SiteState g → Answered → Type 0
@@ -97,7 +97,7 @@ module _ {D : Type 0} {g : Ghosts D} where
   AnswerRests copy ask new (answer.Blocked holder) = CanServe new.replica
   AnswerRests copy ask new (answer.Dead ancestor) = CanServe new.replica
   AnswerRests copy ask new answer.Down = new.replica.up ≡ false
-  AnswerRests copy ask new answer.Full = IsFullFor ask new.log × CanServe new.replica
+  AnswerRests copy ask new answer.Full = CanServe new.replica
   AnswerRests copy ask new answer.Strange = new.strange ≡ true
 
   -- A request was answered: at most the grant in hand was entered, and then the answer's entry; and the seer has seen what it

@@ -1,13 +1,15 @@
 -- A site: what it has in hand, what it enters, and what its disk keeps.
-use Rattle.std.specs.Prelude.{ℕ, ◌≡◌, ◌⊎◌, List, [], ◌∷◌, length}
+use Rattle.std.specs.Prelude.{ℕ, ◌≡◌, ◌⊎◌, List, [], ◌∷◌, length, Option, Some, IfSome, Err}
 use Rattle.qc_config.specs.declared.tuple.Tuple.{Tuple}
-use Rattle.qc_event.specs.Grants.{grant_with}
+use Rattle.qc_event.specs.Base.{Setting}
+use Rattle.qc_event.specs.Grants.{grant_with, MayGrant}
 use Rattle.qc_disk.specs.declared.disk.Disk.{Ghosts}
 use Rattle.qc_event.specs.declared.event.Answered.{Answered}
 use Rattle.qc_event.specs.declared.event.Answered.TheVariants as answer
 use Rattle.qc_event.specs.declared.event.Ask.{Ask}
 use Rattle.qc_event.specs.declared.event.Entry.{Entry}
 use Rattle.qc_event.specs.declared.event.Event.TheVariants as event
+use Rattle.qc_event.specs.declared.event.Grant.{Grant}
 use Rattle.qc_event.specs.declared.event.Refusal.TheVariants as refusal
 use Rattle.qc_event.specs.declared.event.Why.TheVariants as why
 use Rattle.qc_event.specs.History.{Past, grants}
@@ -17,11 +19,13 @@ use Rattle.qc_journal.specs.Journal.{disk_of, limit_of, place_of, IsTooLong}
 use Rattle.qc_journal.specs.declared.journal.Journal.{Journal}
 use Rattle.qc_ledger.specs.Entered.{AtMost, GrowsBy, IsBehind}
 use Rattle.qc_ledger.specs.Runs.{Leaves}
-use Rattle.qc_desk.specs.Entries.{entry}
+use Rattle.qc_desk.specs.Entries.{IsOlder, entry}
 use Rattle.qc_site.specs.AtDesk.{hand_entries, refused_entry, unable_entry}
-use Rattle.qc_site.specs.Back.{grant_body}
+use Rattle.qc_site.specs.Back.{grant_body, IsAnswer}
 use Rattle.qc_site.specs.Log.{IsOver}
 use Rattle.qc_site.specs.Replica.{Standing}
+use Rattle.qc_site.specs.declared.back.BackNo.TheVariants as no_back
+use Rattle.qc_site.specs.declared.back.Strange.{Strange}
 use Rattle.qc_site.specs.declared.fault.SiteNo.{SiteNo}
 use Rattle.qc_site.specs.declared.fault.SiteNo.TheVariants as no_site
 use Rattle.qc_site.specs.declared.log.GrantLog.{GrantLog}
@@ -63,9 +67,23 @@ abbrev pub IsSiteWant : Past → SiteNo → Type 0
 IsSiteWant past (no_site.Short short) = IsWant past short
 IsSiteWant past _ = ⊥
 
--- the record of a grant of this request would pass the limit
-abbrev pub IsFullFor : {D : Type 0} {g : Ghosts D} → Ask → GrantLog D g → Type 0
-IsFullFor ask log = (tuple : Tuple) × IsTooLong (place_of log.journal) (limit_of log.journal) (grant_body log.copies (grant_with ask tuple))
+-- Of what a copy had seen at some time up to now it might have made a grant of this request, and it has granted no more since; and
+-- the record of that grant would pass the limit.
+pub record IsFullFor {D : Type 0} {g : Ghosts D} (setting : Setting) (copy : ℕ) (ask : Ask) (past : Past) (log : GrantLog D g) : Type 0 where
+  pub tuple : Tuple
+  pub earlier : Past
+  pub older : IsOlder earlier past
+  pub may : MayGrant setting earlier (copy_seat copy) copy (grant_with ask tuple)
+  pub given : grants past copy ≡ grants earlier copy
+  pub too_long : IsTooLong (place_of log.journal) (limit_of log.journal) (grant_body log.copies (grant_with ask tuple))
+
+-- where a copy's disk tells its bytes, it is strange so by what they are, against these grants and the one in hand
+abbrev pub Differs : {D : Type 0} {g : Ghosts D} → GrantLog D g → List Grant → Option Grant → Strange → Type 0
+Differs {D} {g} log given hand strange = IfSome (g.view (disk_of log.journal)).content (IsAnswer log.copies log.earlier given hand (Err (no_back.Strange strange)))
+
+-- one that is strange was so before, or it is so since for a reason
+abbrev pub IsStrangeFor : (Strange → Type 0) → Option Strange → Option Strange → Type 0
+IsStrangeFor Why old new = IfSome new (λ strange. (old ≡ Some strange) ⊎ Why strange)
 
 -- a crash at any moment leaves the records that some image had when the call began, or these and that of a grant of this request
 abbrev pub GrowsByGrant : {D : Type 0} {g : Ghosts D} → ℕ → Ask → Journal D g → Journal D g → Type 0

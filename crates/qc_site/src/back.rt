@@ -2,7 +2,7 @@
 ghost use Rattle.std.specs.Prelude.{◌≡◌, ◌≤◌, ◌++◌, List, ℕ, IfOk, IfErr, IfSome, OnOk, OnErr, IsErrOf, None, Ok, true};
 ghost use Rattle.qc_journal.specs.Image.{bodies_of};
 ghost use Rattle.qc_journal.specs.Journal.{disk_of, limit_of, IsUp, Keeps};
-ghost use Rattle.qc_ledger.specs.Runs.{Costs, Falls, Leaves};
+ghost use Rattle.qc_ledger.specs.Runs.{Costs, CostsOnce, Falls, Leaves};
 ghost use Rattle.qc_site.specs.Back.{back_no, IsAnswer, IsLeft, Says};
 ghost use Rattle.qc_site.specs.declared.back.BackNo.TheVariants.{Memory};
 
@@ -143,6 +143,7 @@ pub fn read_back<D: Disk>(
     ensures any_moment { Leaves journal.old journal.new (D.view (disk_of journal.old)).may_leave }
     ensures falls { Falls journal.old journal.new }
     ensures cause { Costs journal.old journal.new (IsErrOf result BackNo.Disk) }
+    ensures counts_once { CostsOnce journal.old journal.new (IsErrOf result BackNo.Disk) }
 {
     match journal.reread() {
         Ok(found) => said(alloc, copies, old, given, hand, &found),

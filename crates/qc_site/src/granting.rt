@@ -9,7 +9,7 @@ ghost use Rattle.qc_event.specs.Seen.{seen};
 ghost use Rattle.qc_event.specs.Tables.{setting_of};
 ghost use Rattle.qc_journal.specs.Journal.{IsDown, IsUp};
 ghost use Rattle.qc_ledger.specs.Entered.{SeesMore};
-ghost use Rattle.qc_ledger.specs.Runs.{Costs};
+ghost use Rattle.qc_ledger.specs.Runs.{Costs, CostsOnce};
 ghost use Rattle.qc_desk.specs.Consulting.{HasAsked};
 ghost use Rattle.qc_site.specs.AtDesk.{LeavesKnown};
 ghost use Rattle.qc_site.specs.Log.{log_journal};
@@ -54,6 +54,7 @@ fn fall<D: Disk, N: Store, const C: u8>(log: &GrantLog<D>, replica: &mut Replica
 
 impl<D: Disk, N: Store, const C: u8> Site<D, N, C> {
     ghost use Rattle.qc_site.specs.Calls.{empty_handed, site_state, SiteBecame, HasServed, ServeSays};
+    ghost use Rattle.qc_site.specs.Sites.{IsFullFor};
 
     // Writes the grant in hand.
     fn write(&mut self, ask: &Ask, tuple: &Tuple) -> Result<(), ServeNo>
@@ -68,12 +69,16 @@ impl<D: Disk, N: Store, const C: u8> Site<D, N, C> {
         ensures up { OnOk result (self.new.replica.up ≡ true) }
         ensures hand { OnOk result (self.new.replica.hand ≡ self.old.replica.hand) }
         ensures journal { OnOk result (IsUp (log_journal self.new.log)) }
-        ensures refused { IfErr result (ServeSays ask.now (site_state self.new)) }
+        ensures refused { IfErr result (ServeSays (site_state self.new)) }
         ensures pass { self.new.replica.pass ≡ self.old.replica.pass }
         ensures became { SiteBecame (setting_of N.table N.base) C (Some ask.now)
             (empty_handed (site_state self.old)) (site_state self.new) }
         ensures strange { self.new.strange ≡ self.old.strange }
+        ensures full { IsErrOf result ServeNo.Full → IsFullFor (setting_of N.table N.base) C ask.now
+            self.new.replica.pass.seen self.new.log }
         ensures cause { Costs (log_journal self.old.log) (log_journal self.new.log)
+            (IsErrOf result ServeNo.Down) }
+        ensures counts_once { CostsOnce (log_journal self.old.log) (log_journal self.new.log)
             (IsErrOf result ServeNo.Down) }
     {
         self.replica.fits(self.log.copies, ask, tuple);
@@ -105,7 +110,7 @@ impl<D: Disk, N: Store, const C: u8> Site<D, N, C> {
             (seen N.base self.old.replica.pass.seen ask.now.copy ask.now.rec) ask.now.op }
         ensures served { OnOk result (HasServed C ask.now seer.new
             (empty_handed (site_state self.old)) (site_state self.new) (Granted tuple.now)) }
-        ensures refused { IfErr result (ServeSays ask.now (site_state self.new)) }
+        ensures refused { IfErr result (ServeSays (site_state self.new)) }
         ensures err { OnErr result (self.new.replica.pass.mine ≡ self.old.replica.pass.mine) }
         ensures became { SiteBecame (setting_of N.table N.base) C (Some ask.now)
             (empty_handed (site_state self.old)) (site_state self.new) }
@@ -113,7 +118,11 @@ impl<D: Disk, N: Store, const C: u8> Site<D, N, C> {
         ensures seer { SeesMore seer.old seer.new }
         ensures known { OnOk result
             (LeavesKnown (setting_of N.table N.base) C self.new.replica.pass seer.new) }
+        ensures full { IsErrOf result ServeNo.Full → IsFullFor (setting_of N.table N.base) C ask.now
+            self.new.replica.pass.seen self.new.log }
         ensures cause { Costs (log_journal self.old.log) (log_journal self.new.log)
+            (IsErrOf result ServeNo.Down) }
+        ensures counts_once { CostsOnce (log_journal self.old.log) (log_journal self.new.log)
             (IsErrOf result ServeNo.Down) }
     {
         self.write(ask, tuple)?;

@@ -5,7 +5,7 @@ ghost use Rattle.qc_codec.specs.Fields.{format_1};
 ghost use Rattle.qc_event.specs.declared.event.Grant.{Grant};
 ghost use Rattle.qc_journal.specs.Journal.{disk_of, limit_of, place_of, IsDown, IsTooLong, IsUp, Keeps};
 ghost use Rattle.qc_journal.specs.declared.fault.Fault.TheVariants.{Full};
-ghost use Rattle.qc_ledger.specs.Runs.{Costs, Falls, HasOrMore, Leaves, LosesNone};
+ghost use Rattle.qc_ledger.specs.Runs.{Costs, CostsOnce, Falls, HasOrMore, Leaves, LosesNone};
 ghost use Rattle.qc_site.specs.Back.{grant_body, IsAnswer, IsPlain};
 
 use crate::back::{BackNo, read_back};
@@ -78,6 +78,8 @@ impl<D: Disk> GrantLog<D> {
             → LosesNone (log_journal self.old) (log_journal self.new) }
         ensures cause { Costs (log_journal self.old) (log_journal self.new)
             (IsErrOf result Fault.Disk) }
+        ensures counts_once { CostsOnce (log_journal self.old) (log_journal self.new)
+            (IsErrOf result Fault.Disk) }
     {
         let bytes = write_grant(self.alloc, grant, self.copies)?;
         self.journal.append(&bytes)
@@ -115,6 +117,8 @@ impl<D: Disk> GrantLog<D> {
             (D.view (disk_of (log_journal self.old))).may_leave }
         ensures falls { Falls (log_journal self.old) (log_journal self.new) }
         ensures cause { Costs (log_journal self.old) (log_journal self.new)
+            (IsErrOf result BackNo.Disk) }
+        ensures counts_once { CostsOnce (log_journal self.old) (log_journal self.new)
             (IsErrOf result BackNo.Disk) }
     {
         let copies = self.copies;

@@ -1,6 +1,6 @@
 //! Mounting a copy's disk.
 ghost use Rattle.std.specs.Prelude.{ℕ, ◌≡◌, ◌<◌, ◌≤◌, List, length, map, IfOk, IfErr, IsSome, OnOk, IsErrOf, IsErrAnd};
-ghost use Rattle.qc_disk.specs.Disk.{HasCause, LeavesOnly, Grows};
+ghost use Rattle.qc_disk.specs.Disk.{CountsOnce, HasCause, LeavesOnly, Grows};
 ghost use Rattle.qc_codec.specs.Bodies as body;
 ghost use Rattle.qc_codec.specs.Copy.{grant_form};
 ghost use Rattle.qc_codec.specs.Ledger.{readings};
@@ -10,7 +10,7 @@ ghost use Rattle.qc_event.specs.Tables.{base_of, first_tuple};
 ghost use Rattle.qc_journal.specs.Image.{HasAt, bodies_of};
 ghost use Rattle.qc_journal.specs.Journal.{disk_of, limit_of, IsUp, Keeps};
 ghost use Rattle.qc_ledger.specs.Mounted.{MountLeaves, HasSome};
-ghost use Rattle.qc_ledger.specs.Runs.{Costs, HasMore, KeepsAll, Leaves, LosesNone};
+ghost use Rattle.qc_ledger.specs.Runs.{Costs, CostsOnce, HasMore, KeepsAll, Leaves, LosesNone};
 ghost use Rattle.qc_site.specs.Image.{made_body, to_write, AreGranted, AreMountableAsCopy, IsCopyFault};
 ghost use Rattle.qc_site.specs.Refusing.{IsCopyRefusal, IsOfCopyImage};
 ghost use Rattle.qc_site.specs.Mounted.{MountsCopy, copies_of, copy_of, journal_of, records_of, disk_after};
@@ -76,6 +76,7 @@ fn begin<D: Disk>(
         (to_write copy table.now (bodies_of bodies.old.items))) }
     ensures grows { KeepsAll journal.old bodies.old → LosesNone journal.old journal.new }
     ensures cause { Costs journal.old journal.new (IsErrOf result SiteNo.Disk) }
+    ensures counts_once { CostsOnce journal.old journal.new (IsErrOf result SiteNo.Disk) }
 {
     let made = made_of(alloc, copy, table)?;
     let grants = grants_of(alloc, copy, table, past, &made, bodies)?;
@@ -128,6 +129,8 @@ pub fn mount<D: Disk>(
     ensures grows { IsSome (D.view disk).content → (index : ℕ) (had : List ℕ)
         → Grows D.view disk (disk_after result) (HasAt index had) }
     ensures cause { HasCause (D.view disk).faults (D.view (disk_after result)).faults
+        (IsErrAnd result (λ refused. refused.1 ≡ SiteNo.Disk)) }
+    ensures counts_once { CountsOnce (D.view disk).faults (D.view (disk_after result)).faults
         (IsErrAnd result (λ refused. refused.1 ≡ SiteNo.Disk)) }
 {
     let (mut journal, mut bodies) = match Journal::mount(alloc, disk, limit) {

@@ -1,14 +1,15 @@
 //! How a site serves a request.
-ghost use Rattle.std.specs.Prelude.{◌≡◌, ◌∷◌, true, IfOk, IfErr, OnOk, OnErr, IsErrOf, Ok, Some};
+ghost use Rattle.std.specs.Prelude.{◌≡◌, ◌∷◌, true, IfOk, IfErr, OnOk, OnErr, IsErrOf, Err, Ok, Some, is_some};
 ghost use Rattle.qc_config.specs.declared.tuple.Tuple.{Tuple};
 ghost use Rattle.qc_event.specs.Grants.{grant_with};
-ghost use Rattle.qc_event.specs.declared.event.Answered.TheVariants.{Down, Granted};
+ghost use Rattle.qc_event.specs.declared.event.Answered.TheVariants.{Down, Full, Granted, Strange};
 ghost use Rattle.qc_event.specs.Base.{IsProper};
+ghost use Rattle.qc_event.specs.History.{grants};
 ghost use Rattle.qc_event.specs.Requests.{is_fault};
 ghost use Rattle.qc_event.specs.Tables.{setting_of};
 ghost use Rattle.qc_event.specs.Wants.{IsWant};
 ghost use Rattle.qc_ledger.specs.Entered.{SeesMore};
-ghost use Rattle.qc_ledger.specs.Runs.{Costs};
+ghost use Rattle.qc_ledger.specs.Runs.{Costs, CostsOnce};
 ghost use Rattle.qc_desk.specs.Consulting.{HasAsked};
 ghost use Rattle.qc_site.specs.AtDesk.{unable_entry, IsGranted, LeavesKnown};
 ghost use Rattle.qc_site.specs.Log.{log_journal};
@@ -58,7 +59,7 @@ fn of_site(no: SiteNo) -> ServeNo
 
 impl<D: Disk, N: Store, const C: u8> Site<D, N, C> {
     ghost use Rattle.qc_site.specs.Calls.{site_state, SiteBecame, CanServe, HasServed, ReviveSays, ServeSays};
-    ghost use Rattle.qc_site.specs.Sites.{EntersHand, IsByLocks};
+    ghost use Rattle.qc_site.specs.Sites.{Differs, EntersHand, IsByLocks, IsFullFor, IsStrangeFor};
 
     // Is up, with nothing in hand.
     fn rise<R: Wait>(&mut self, rt: &R, desk: &Desk<N>) -> Result<(), SiteNo>
@@ -70,7 +71,14 @@ impl<D: Disk, N: Store, const C: u8> Site<D, N, C> {
             × (self.new.log ≡ self.old.log) × (self.new.replica ≡ self.old.replica) }
         ensures became { SiteBecame (setting_of N.table N.base) C None (site_state self.old)
             (site_state self.new) }
+        ensures for_good { is_some self.old.strange ≡ true
+            → (result ≡ Err SiteNo.Strange) × (self.new.strange ≡ self.old.strange) }
+        ensures differs { IsStrangeFor (Differs self.old.log
+            (grants self.old.replica.pass.seen C) self.old.replica.hand)
+            self.old.strange self.new.strange }
         ensures cause { Costs (log_journal self.old.log) (log_journal self.new.log)
+            (IsErrOf result SiteNo.Disk) }
+        ensures counts_once { CostsOnce (log_journal self.old.log) (log_journal self.new.log)
             (IsErrOf result SiteNo.Disk) }
     {
         if self.replica.is_up() {
@@ -95,7 +103,7 @@ impl<D: Disk, N: Store, const C: u8> Site<D, N, C> {
         ensures served { IfOk result
             (HasServed C ask.now seer.new (site_state self.old) (site_state self.new)) }
         ensures by_locks { IfOk result IsByLocks }
-        ensures refused { IfErr result (ServeSays ask.now (site_state self.new)) }
+        ensures refused { IfErr result (ServeSays (site_state self.new)) }
         ensures err { OnErr result (self.new.replica.pass.mine ≡ self.old.replica.pass.mine) }
         ensures again { (tuple : Tuple)
             → IsGranted C self.old.replica.pass.seen (grant_with ask.now tuple)
@@ -107,7 +115,11 @@ impl<D: Disk, N: Store, const C: u8> Site<D, N, C> {
         ensures seer { SeesMore seer.old seer.new }
         ensures known { OnOk result
             (LeavesKnown (setting_of N.table N.base) C self.new.replica.pass seer.new) }
+        ensures full { IsErrOf result ServeNo.Full → IsFullFor (setting_of N.table N.base) C ask.now
+            self.new.replica.pass.seen self.new.log }
         ensures cause { Costs (log_journal self.old.log) (log_journal self.new.log)
+            (IsErrOf result ServeNo.Down) }
+        ensures counts_once { CostsOnce (log_journal self.old.log) (log_journal self.new.log)
             (IsErrOf result ServeNo.Down) }
     {
         let told = self.replica.consult(rt, desk, seer, ask)?;
@@ -139,7 +151,7 @@ impl<D: Disk, N: Store, const C: u8> Site<D, N, C> {
         ensures served { IfOk result
             (HasServed C ask.now seer.new (site_state self.old) (site_state self.new)) }
         ensures by_locks { IfOk result IsByLocks }
-        ensures refused { IfErr result (ServeSays ask.now (site_state self.new)) }
+        ensures refused { IfErr result (ServeSays (site_state self.new)) }
         ensures err { OnErr result (EntersHand C self.old.replica self.new.replica) }
         ensures again { (tuple : Tuple) → CanServe self.old.replica
             → IsGranted C self.old.replica.pass.seen (grant_with ask.now tuple)
@@ -151,7 +163,16 @@ impl<D: Disk, N: Store, const C: u8> Site<D, N, C> {
         ensures asked { HasAsked seer.new.seen ask.now }
         ensures known { OnOk result
             (LeavesKnown (setting_of N.table N.base) C self.new.replica.pass seer.new) }
+        ensures for_good { is_some self.old.strange ≡ true
+            → (result ≡ Err ServeNo.Strange) × (self.new.strange ≡ self.old.strange) }
+        ensures differs { IsStrangeFor (Differs self.old.log
+            (grants self.old.replica.pass.seen C) self.old.replica.hand)
+            self.old.strange self.new.strange }
+        ensures full { IsErrOf result ServeNo.Full → IsFullFor (setting_of N.table N.base) C ask.now
+            self.new.replica.pass.seen self.new.log }
         ensures cause { Costs (log_journal self.old.log) (log_journal self.new.log)
+            (IsErrOf result ServeNo.Down) }
+        ensures counts_once { CostsOnce (log_journal self.old.log) (log_journal self.new.log)
             (IsErrOf result ServeNo.Down) }
     {
         match self.rise(rt, desk) {
@@ -180,6 +201,7 @@ impl<D: Disk, N: Store, const C: u8> Site<D, N, C> {
         ensures still { (self.new.log ≡ self.old.log) × (self.new.strange ≡ self.old.strange)
             × (self.new.replica.hand ≡ self.old.replica.hand)
             × (self.new.replica.up ≡ self.old.replica.up) }
+        ensures grants { grants self.new.replica.pass.seen C ≡ grants self.old.replica.pass.seen C }
         ensures became { SiteBecame (setting_of N.table N.base) C None (site_state self.old)
             (site_state self.new) }
         ensures seer { SeesMore seer.old seer.new }
@@ -220,9 +242,22 @@ impl<D: Disk, N: Store, const C: u8> Site<D, N, C> {
         ensures known { OnOk result
             (LeavesKnown (setting_of N.table N.base) C self.new.replica.pass seer.new) }
 
-        // Down is answered only where the disk's count of faults rose.
+        // Full is answered of a request that was found free, whose record would pass the limit. A strange copy stays so, and
+        // answers nothing else; one turns strange for what its disk has in place of what it granted.
+        ensures full { result ≡ Ok Full → IsFullFor (setting_of N.table N.base) C ask.now
+            self.new.replica.pass.seen self.new.log }
+        ensures for_good { is_some self.old.strange ≡ true → (IfOk result (λ said. said ≡ Strange))
+            × (self.new.strange ≡ self.old.strange) }
+        ensures differs { IsStrangeFor (Differs self.old.log
+            (grants self.old.replica.pass.seen C) self.old.replica.hand)
+            self.old.strange self.new.strange }
+
+        // Down is answered only where the disk's count of faults rose, and another answer only where it did not. It rises by
+        // one at most.
         ensures cause { Costs (log_journal self.old.log) (log_journal self.new.log)
             (result ≡ Ok Down) }
+        ensures counts_once { CostsOnce (log_journal self.old.log) (log_journal self.new.log)
+            (OnOk result (result ≡ Ok Down)) }
     {
         match self.try_serve(rt, desk, seer, ask) {
             Ok(answered) => Ok(answered),

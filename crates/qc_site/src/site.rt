@@ -1,5 +1,5 @@
 //! A copy over its desk and its disk: what it granted stands in each image.
-ghost use Rattle.std.specs.Prelude.{◌≡◌, ◌≤◌, ◌⊎◌, ◌++◌, ℕ, List, [], true, false, IfOk, IfSome, IfErr, OnOk, OnErr, IsErrOf, None, length, is_some, option_to_list};
+ghost use Rattle.std.specs.Prelude.{◌≡◌, ◌≤◌, ◌⊎◌, ◌++◌, ℕ, List, [], true, false, IfOk, IfSome, IfErr, OnOk, OnErr, IsErrOf, Err, None, length, is_some, option_map, option_to_list};
 ghost use Rattle.qc_event.specs.Base.{IsProper};
 ghost use Rattle.qc_event.specs.Grants.{MayGrant};
 ghost use Rattle.qc_event.specs.History.{grants, limit};
@@ -7,7 +7,7 @@ ghost use Rattle.qc_event.specs.Seats.{copy_seat};
 ghost use Rattle.qc_event.specs.Tables.{setting_of};
 ghost use Rattle.qc_journal.specs.Journal.{disk_of, limit_of, IsDown, IsUp};
 ghost use Rattle.qc_ledger.specs.Entered.{SeesMore};
-ghost use Rattle.qc_ledger.specs.Runs.{Costs, Falls, Leaves};
+ghost use Rattle.qc_ledger.specs.Runs.{Costs, CostsOnce, Falls, Leaves};
 ghost use Rattle.qc_desk.specs.Known.{IsKnown};
 ghost use Rattle.qc_site.specs.AtDesk.{LeavesKnown, OnlyLooks};
 ghost use Rattle.qc_site.specs.Log.{copies_of, log_journal};
@@ -37,7 +37,7 @@ pub struct Site<D: Disk, N: Store, const C: u8> {
 
 impl<D: Disk, N: Store, const C: u8> Site<D, N, C> {
     ghost use Rattle.qc_site.specs.Calls.{site_state, SiteBecame, CanServe, ReviveSays, SiteWroteNone};
-    ghost use Rattle.qc_site.specs.Sites.{EntersHand, IsSiteWant, KeepsGranted};
+    ghost use Rattle.qc_site.specs.Sites.{Differs, EntersHand, IsSiteWant, IsStrangeFor, KeepsGranted};
 
     /// Whether it is up.
     pub fn is_up(&self) -> bool
@@ -48,7 +48,7 @@ impl<D: Disk, N: Store, const C: u8> Site<D, N, C> {
 
     /// Why it is strange, where it is.
     pub fn strange(&self) -> Option<&Strange>
-        ensures { is_some result ≡ is_some self.now.strange }
+        ensures { option_map (λ strange. strange.now) result ≡ self.now.strange }
     {
         self.strange.as_ref()
     }
@@ -103,6 +103,8 @@ impl<D: Disk, N: Store, const C: u8> Site<D, N, C> {
         ensures plain { (before : List (List ℕ))
             → KeepsGranted C before self.old.log self.old.replica
             → is_some self.new.strange ≡ is_some self.old.strange }
+        ensures differs { IsStrangeFor (Differs self.old.log given.now self.old.replica.hand)
+            self.old.strange self.new.strange }
         ensures limit { limit_of (log_journal self.new.log) ≡ limit_of (log_journal self.old.log) }
         ensures content { (D.view (disk_of (log_journal self.new.log))).content
             ≡ (D.view (disk_of (log_journal self.old.log))).content }
@@ -110,6 +112,8 @@ impl<D: Disk, N: Store, const C: u8> Site<D, N, C> {
             (D.view (disk_of (log_journal self.old.log))).may_leave }
         ensures falls { Falls (log_journal self.old.log) (log_journal self.new.log) }
         ensures cause { Costs (log_journal self.old.log) (log_journal self.new.log)
+            (IsErrOf result SiteNo.Disk) }
+        ensures counts_once { CostsOnce (log_journal self.old.log) (log_journal self.new.log)
             (IsErrOf result SiteNo.Disk) }
     {
         match self.log.read_back(given, &self.replica.hand()) {
@@ -159,6 +163,7 @@ impl<D: Disk, N: Store, const C: u8> Site<D, N, C> {
         ensures refused { IfErr result (IsSiteWant self.new.replica.pass.seen) }
         ensures enters { EntersHand C self.old.replica self.new.replica }
         ensures log { self.new.log ≡ self.old.log }
+        ensures strange { self.new.strange ≡ self.old.strange }
         ensures became { SiteBecame (setting_of N.table N.base) C None (site_state self.old)
             (site_state self.new) }
     {
@@ -174,7 +179,8 @@ impl<D: Disk, N: Store, const C: u8> Site<D, N, C> {
         requires proper { IsProper (setting_of N.table N.base) }
         requires down { self.old.replica.up ≡ false }
 
-        // What was entered is at most the grant in hand. A fault of the disk is told only where its count of them rose.
+        // What was entered is at most the grant in hand. A fault of the disk is told exactly where its count of them rose, by
+        // one. A strange copy stays so; one turns strange for what its disk has in place of what it granted.
         ensures ready { OnOk result (CanServe self.new.replica) }
         ensures refused { IfErr result (ReviveSays (site_state self.new)) }
         ensures enters { EntersHand C self.old.replica self.new.replica }
@@ -182,7 +188,14 @@ impl<D: Disk, N: Store, const C: u8> Site<D, N, C> {
             (site_state self.new) }
         ensures wrote_none { SiteWroteNone (setting_of N.table N.base) C (site_state self.old)
             (site_state self.new) }
+        ensures for_good { is_some self.old.strange ≡ true
+            → (result ≡ Err SiteNo.Strange) × (self.new.strange ≡ self.old.strange) }
+        ensures differs { IsStrangeFor (Differs self.old.log
+            (grants self.old.replica.pass.seen C) self.old.replica.hand)
+            self.old.strange self.new.strange }
         ensures cause { Costs (log_journal self.old.log) (log_journal self.new.log)
+            (IsErrOf result SiteNo.Disk) }
+        ensures counts_once { CostsOnce (log_journal self.old.log) (log_journal self.new.log)
             (IsErrOf result SiteNo.Disk) }
     {
         if self.strange.is_some() {

@@ -7,8 +7,9 @@ use Rattle.qc_desk.specs.declared.view.View.{View}
 use Rattle.qc_site.specs.AtDesk.{hand_entries, IsGranted}
 use Rattle.qc_site.specs.Calls.{empty_handed, site_state, SiteState}
 use Rattle.qc_site.specs.Log.{log_journal}
+use Rattle.qc_site.specs.declared.serve.ServeNo.TheVariants.{Down, Full}
 use Rattle.qc_site.proofs.Calls.{became_last, entered, looked}
-use Rattle.qc_site.proofs.Refusals.{short_not_down, short_says}
+use Rattle.qc_site.proofs.Refusals.{short_not, short_says}
 use Rattle.qc_site.proofs.site.Site.admit.Goals as goal
 
 pub returns-clause-served : goal.returns-clause-served
@@ -52,10 +53,19 @@ returns-in_err-append-clause-became g c =
 pub returns-in_err-append-clause-refused : goal.returns-in_err-append-clause-refused
 returns-in_err-append-clause-refused g c =
     let new : SiteState g.D.Disk = record { log = c.write.new.self.log; replica = c.append.new.self; strange = is_some c.write.new.self.strange } in
-    short_says c.args.ask.now new c.in_err-append.field-0.0 c.from_residual-in_err-append.result c.from_residual-in_err-append.ensures.1 c.in_err-append.ensures.want
+    short_says new c.in_err-append.field-0.0 c.from_residual-in_err-append.result c.from_residual-in_err-append.ensures.1 c.in_err-append.ensures.want
 
 pub returns-in_err-append-clause-cause : goal.returns-in_err-append-clause-cause
 returns-in_err-append-clause-cause g c = record {
   later = c.in_ok-write.ensures.cause.later;
-  failed = λ failed. absurd (short_not_down c.in_err-append.field-0.0 c.from_residual-in_err-append.result c.from_residual-in_err-append.ensures.1 failed);
+  failed = λ failed. absurd (short_not c.in_err-append.field-0.0 Down c.from_residual-in_err-append.result (λ same. cc) c.from_residual-in_err-append.ensures.1 failed);
 }
+
+pub returns-in_err-append-clause-counts_once : goal.returns-in_err-append-clause-counts_once
+returns-in_err-append-clause-counts_once g c = record {
+  once = c.in_ok-write.ensures.counts_once.once;
+  spared = λ never. c.in_ok-write.ensures.counts_once.spared (λ failed. absurd cc);
+}
+
+pub returns-in_err-append-clause-full : goal.returns-in_err-append-clause-full
+returns-in_err-append-clause-full g c = λ failed. absurd (short_not c.in_err-append.field-0.0 Full c.from_residual-in_err-append.result (λ same. cc) c.from_residual-in_err-append.ensures.1 failed)

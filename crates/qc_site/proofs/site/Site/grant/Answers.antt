@@ -8,9 +8,10 @@ use Rattle.qc_desk.specs.declared.consult.Consulted.TheVariants.{Fresh}
 use Rattle.qc_site.specs.AtDesk.{hand_after, told_entries}
 use Rattle.qc_site.specs.Calls.{empty_handed, site_state, SiteState}
 use Rattle.qc_site.specs.Log.{log_journal}
+use Rattle.qc_site.specs.declared.serve.ServeNo.TheVariants.{Down, Full}
 use Rattle.qc_site.proofs.Again.{err_or_again, fresh_or_again, one_tuple}
 use Rattle.qc_site.proofs.Calls.{asks, became_on, looked, serves_on}
-use Rattle.qc_site.proofs.Refusals.{same_down, short_says}
+use Rattle.qc_site.proofs.Refusals.{handed_refusal, same_refusal, short_not, short_says}
 use Rattle.qc_site.proofs.site.Site.grant.Goals as goal
 
 -- WHERE MEMORY OR ROOM IS WANTING
@@ -18,7 +19,7 @@ use Rattle.qc_site.proofs.site.Site.grant.Goals as goal
 pub returns-in_err-told-clause-refused : goal.returns-in_err-told-clause-refused
 returns-in_err-told-clause-refused g c =
     let new : SiteState g.D.Disk = record { log = c.args.self.now.log; replica = c.consult.new.self; strange = is_some c.args.self.now.strange } in
-    short_says c.args.ask.now new c.in_err-told.field-0.0 c.from_residual.result c.from_residual.ensures.1 c.in_err-told.ensures.want
+    short_says new c.in_err-told.field-0.0 c.from_residual.result c.from_residual.ensures.1 c.in_err-told.ensures.want
 
 pub returns-in_err-told-clause-became : goal.returns-in_err-told-clause-became
 returns-in_err-told-clause-became g c =
@@ -145,5 +146,22 @@ returns-in-Dead-clause-became g c =
 pub returns-in_err-admit-in-Free-clause-cause : goal.returns-in_err-admit-in-Free-clause-cause
 returns-in_err-admit-in-Free-clause-cause g c = record {
   later = c.admit.ensures.cause.later;
-  failed = λ down. c.in_err-admit-in-Free.ensures.cause.failed (same_down c.from_residual-in_err-admit-in-Free.result c.in_err-admit-in-Free.field-0.0 c.from_residual-in_err-admit-in-Free.ensures.1 down);
+  failed = λ down. c.in_err-admit-in-Free.ensures.cause.failed (same_refusal c.from_residual-in_err-admit-in-Free.result c.in_err-admit-in-Free.field-0.0 Down c.from_residual-in_err-admit-in-Free.ensures.1 down);
 }
+
+pub returns-in_err-admit-in-Free-clause-counts_once : goal.returns-in_err-admit-in-Free-clause-counts_once
+returns-in_err-admit-in-Free-clause-counts_once g c = record {
+  once = c.admit.ensures.counts_once.once;
+  spared = λ never. c.in_err-admit-in-Free.ensures.counts_once.spared (λ down.
+      never (handed_refusal c.from_residual-in_err-admit-in-Free.result c.in_err-admit-in-Free.field-0.0 Down c.from_residual-in_err-admit-in-Free.ensures.1 down));
+}
+
+pub returns-in_err-admit-in-Free-clause-full : goal.returns-in_err-admit-in-Free-clause-full
+returns-in_err-admit-in-Free-clause-full g c = λ full.
+    c.in_err-admit-in-Free.ensures.full (same_refusal c.from_residual-in_err-admit-in-Free.result c.in_err-admit-in-Free.field-0.0 Full c.from_residual-in_err-admit-in-Free.ensures.1 full)
+
+pub returns-in_err-told-clause-full : goal.returns-in_err-told-clause-full
+returns-in_err-told-clause-full g c = λ full. absurd (short_not c.in_err-told.field-0.0 Full c.from_residual.result (λ same. cc) c.from_residual.ensures.1 full)
+
+pub returns-in_ok-admit-in-Free-clause-counts_once : goal.returns-in_ok-admit-in-Free-clause-counts_once
+returns-in_ok-admit-in-Free-clause-counts_once g c = record { once = c.in_ok-admit-in-Free.ensures.counts_once.once; spared = λ never. c.in_ok-admit-in-Free.ensures.counts_once.spared (λ failed. absurd cc) }

@@ -3,7 +3,7 @@ use Rattle.std.specs.Prelude.{None, IsErrOf}
 use Rattle.qc_site.specs.declared.fault.SiteNo.TheVariants.{Disk}
 use Rattle.qc_event.specs.Tables.{setting_of}
 use Rattle.qc_journal.specs.Journal.{disk_of}
-use Rattle.qc_ledger.specs.Runs.{Costs}
+use Rattle.qc_ledger.specs.Runs.{Costs, CostsOnce}
 use Rattle.qc_site.specs.Calls.{site_state}
 use Rattle.qc_site.specs.Log.{log_journal}
 use Rattle.qc_site.proofs.Calls.{became_on, compared, looked, none_on, nothing_done, nothing_written}
@@ -64,3 +64,8 @@ pub returns-clause-cause : goal.returns-clause-cause
 returns-clause-cause g c =
     subst (λ l. Costs (log_journal c.args.self.now.log) (log_journal l) (IsErrOf c.restore.result Disk)) (sym c.restore.ensures.log)
     record { later = c.in_ok-compare.ensures.cause.later; failed = λ failed. absurd (no_disk_no c.restore.new.self.replica.pass.seen c.restore.result c.restore.ensures.refused failed) }
+
+pub returns-clause-counts_once : goal.returns-clause-counts_once
+returns-clause-counts_once g c =
+    subst (λ l. CostsOnce (log_journal c.args.self.now.log) (log_journal l) (IsErrOf c.restore.result Disk)) (sym c.restore.ensures.log)
+    record { once = c.in_ok-compare.ensures.counts_once.once; spared = λ never. c.in_ok-compare.ensures.counts_once.spared (λ failed. absurd cc) }

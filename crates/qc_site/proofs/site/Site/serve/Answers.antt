@@ -1,12 +1,14 @@
 -- That a copy was unable comes behind what was tried.
 use Rattle.std.proofs.Common.{sym, ap, ◌∙◌, subst}
-use Rattle.std.specs.Prelude.{Some, is_some}
+use Rattle.std.specs.Prelude.{Err, Some, is_some}
 use Rattle.qc_event.specs.Tables.{setting_of}
-use Rattle.qc_journal.specs.Journal.{disk_of}
+use Rattle.qc_event.specs.Grants.{grant_with}
+use Rattle.qc_journal.specs.Journal.{disk_of, limit_of, place_of, IsTooLong}
 use Rattle.qc_ledger.proofs.Passes.{sees_on}
+use Rattle.qc_desk.proofs.Seers.{older_trans}
 use Rattle.qc_site.specs.Calls.{site_state, ServeSays}
-use Rattle.qc_site.specs.Log.{log_journal}
-use Rattle.qc_site.specs.Sites.{IsFullFor}
+use Rattle.qc_site.specs.Back.{grant_body}
+use Rattle.qc_site.specs.Log.{copies_of, log_journal}
 use Rattle.qc_site.proofs.Calls.{became_last}
 use Rattle.qc_site.proofs.site.Site.serve.Goals as goal
 
@@ -15,7 +17,7 @@ use Rattle.qc_site.proofs.site.Site.serve.Goals as goal
 pub returns-in_ok-unable-in-Err-Down-clause-served : goal.returns-in_ok-unable-in-Err-Down-clause-served
 returns-in_ok-unable-in-Err-Down-clause-served g c =
     let still = c.unable.ensures.still in
-    let says = subst (ServeSays c.args.ask.now (site_state c.try_serve.new.self)) c.in-Err-Down.field-0-is c.in-Err-Down.ensures.refused in
+    let says = subst (ServeSays (site_state c.try_serve.new.self)) c.in-Err-Down.field-0-is c.in-Err-Down.ensures.refused in
     record {
       enters = record { mid = c.try_serve.new.self.replica.pass.mine; first_of_all = c.in-Err-Down.ensures.err; all = c.in_ok-unable-in-Err-Down.ensures.enters };
       rests = still.3 ∙ says;
@@ -43,13 +45,10 @@ returns-in_err-unable-in-Err-Down-clause-seer g c = sees_on c.args.seer.now c.tr
 pub returns-in_ok-unable-in-Err-Full-clause-served : goal.returns-in_ok-unable-in-Err-Full-clause-served
 returns-in_ok-unable-in-Err-Full-clause-served g c =
     let still = c.unable-in-Err-Full.ensures.still in
-    let says = subst (ServeSays c.args.ask.now (site_state c.try_serve.new.self)) c.in-Err-Full.field-0-is c.in-Err-Full.ensures.refused in
+    let says = subst (ServeSays (site_state c.try_serve.new.self)) c.in-Err-Full.field-0-is c.in-Err-Full.ensures.refused in
     record {
       enters = record { mid = c.try_serve.new.self.replica.pass.mine; first_of_all = c.in-Err-Full.ensures.err; all = c.in_ok-unable-in-Err-Full.ensures.enters };
-      rests = (
-        subst (λ l. IsFullFor c.args.ask.now l) (sym still.0) says.0,
-        record { up = still.3 ∙ says.1.up; none = still.2 ∙ says.1.none },
-      );
+      rests = record { up = still.3 ∙ says.up; none = still.2 ∙ says.none };
       shown = c.unable-in-Err-Full.ensures.same;
     }
 
@@ -69,12 +68,27 @@ returns-in_err-unable-in-Err-Full-clause-became g c =
 pub returns-in_err-unable-in-Err-Full-clause-seer : goal.returns-in_err-unable-in-Err-Full-clause-seer
 returns-in_err-unable-in-Err-Full-clause-seer g c = sees_on c.args.seer.now c.try_serve.new.seer c.unable-in-Err-Full.new.seer c.try_serve.ensures.seer c.unable-in-Err-Full.ensures.seer
 
+pub returns-in_ok-unable-in-Err-Full-clause-full : goal.returns-in_ok-unable-in-Err-Full-clause-full
+returns-in_ok-unable-in-Err-Full-clause-full g c = λ is.
+    let tried = c.try_serve.new.self in
+    let new = c.unable-in-Err-Full.new.self in
+    let still = c.unable-in-Err-Full.ensures.still in
+    let full = c.in-Err-Full.ensures.full (ap (λ x. Err x) c.in-Err-Full.field-0-is) in
+    record {
+      tuple = full.tuple;
+      earlier = full.earlier;
+      older = older_trans full.earlier tried.replica.pass.seen new.replica.pass.seen full.older c.unable-in-Err-Full.ensures.became.seen;
+      may = full.may;
+      given = c.unable-in-Err-Full.ensures.grants ∙ full.given;
+      too_long = subst (λ l. IsTooLong (place_of (log_journal l)) (limit_of (log_journal l)) (grant_body (copies_of l) (grant_with c.args.ask.now full.tuple))) (sym still.0) full.too_long;
+    }
+
 -- STRANGE
 
 pub returns-in_ok-unable-in-Err-Strange-clause-served : goal.returns-in_ok-unable-in-Err-Strange-clause-served
 returns-in_ok-unable-in-Err-Strange-clause-served g c =
     let still = c.unable-in-Err-Strange.ensures.still in
-    let says = subst (ServeSays c.args.ask.now (site_state c.try_serve.new.self)) c.in-Err-Strange.field-0-is c.in-Err-Strange.ensures.refused in
+    let says = subst (ServeSays (site_state c.try_serve.new.self)) c.in-Err-Strange.field-0-is c.in-Err-Strange.ensures.refused in
     record {
       enters = record { mid = c.try_serve.new.self.replica.pass.mine; first_of_all = c.in-Err-Strange.ensures.err; all = c.in_ok-unable-in-Err-Strange.ensures.enters };
       rests = ap is_some still.1 ∙ says;

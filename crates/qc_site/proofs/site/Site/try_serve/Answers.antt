@@ -9,14 +9,14 @@ use Rattle.qc_site.specs.Calls.{site_state}
 use Rattle.qc_site.specs.Log.{log_journal}
 use Rattle.qc_site.specs.Replica.{Standing}
 use Rattle.qc_site.proofs.Calls.{asks, became_on, served_on}
-use Rattle.qc_site.proofs.Logs.{cause_on}
-use Rattle.qc_site.proofs.Refusals.{site_down, site_says}
+use Rattle.qc_site.proofs.Logs.{cause_on, once_on}
+use Rattle.qc_site.proofs.Refusals.{disk_is_down, site_down, site_not_full, site_says}
 use Rattle.qc_site.proofs.site.Site.try_serve.Goals as goal
 
 -- WHERE IT DOES NOT RISE
 
 pub returns-in-Err-clause-refused : goal.returns-in-Err-clause-refused
-returns-in-Err-clause-refused g c = site_says c.args.ask.now (site_state c.rise.new.self) c.in-Err.no c.of_site.result c.of_site.ensures c.in-Err.ensures.refused
+returns-in-Err-clause-refused g c = site_says (site_state c.rise.new.self) c.in-Err.no c.of_site.result c.of_site.ensures c.in-Err.ensures.refused
 
 pub returns-in-Err-clause-again : goal.returns-in-Err-clause-again
 returns-in-Err-clause-again g c = λ tuple ready told. absurd ((c.in-Err.ensures.idle ready).0)
@@ -29,6 +29,15 @@ returns-in-Err-clause-cause g c = record {
   later = c.in-Err.ensures.cause.later;
   failed = λ failed. c.in-Err.ensures.cause.failed (site_down c.in-Err.no c.of_site.result c.of_site.ensures failed);
 }
+
+pub returns-in-Err-clause-counts_once : goal.returns-in-Err-clause-counts_once
+returns-in-Err-clause-counts_once g c = record {
+  once = c.in-Err.ensures.counts_once.once;
+  spared = λ never. c.in-Err.ensures.counts_once.spared (λ failed. never (disk_is_down c.in-Err.no c.of_site.result c.of_site.ensures failed));
+}
+
+pub returns-in-Err-clause-full : goal.returns-in-Err-clause-full
+returns-in-Err-clause-full g c = λ full. absurd (site_not_full c.in-Err.no c.of_site.result c.of_site.ensures full)
 
 -- WHERE IT DOES
 
@@ -52,3 +61,6 @@ returns-clause-asked g c = asked_later c.args.seer.now.seen c.grant.new.seer.see
 
 pub returns-clause-cause : goal.returns-clause-cause
 returns-clause-cause g c = cause_on _ _ _ _ _ c.rise.ensures.cause c.grant.ensures.cause
+
+pub returns-clause-counts_once : goal.returns-clause-counts_once
+returns-clause-counts_once g c = once_on _ _ _ _ (c.in-Ok.ensures.counts_once.spared (λ failed. absurd cc)) c.grant.ensures.counts_once

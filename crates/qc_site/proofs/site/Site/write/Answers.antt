@@ -1,4 +1,4 @@
-use Rattle.std.proofs.Common.{◌≡◌, inl, inr, refl, sym, ap, ◌∙◌, subst, true, false}
+use Rattle.std.proofs.Common.{◌≡◌, inl, inr, [], refl, sym, ap, ◌∙◌, subst, true, false}
 use Rattle.std.specs.Prelude.{Err, None, Some, IfSome, is_some}
 use Rattle.qc_event.specs.Grants.{MayGrant}
 use Rattle.qc_event.specs.History.{grants}
@@ -7,11 +7,12 @@ use Rattle.qc_event.specs.Tables.{setting_of}
 use Rattle.qc_journal.specs.Journal.{disk_of}
 use Rattle.qc_ledger.proofs.Logging.{up_by}
 use Rattle.qc_desk.specs.declared.view.View.{View}
+use Rattle.qc_desk.specs.Entries.{IsOlder}
 use Rattle.qc_site.specs.Calls.{site_state, SiteState}
 use Rattle.qc_site.specs.Log.{log_journal}
 use Rattle.qc_site.proofs.Calls.{wrote}
 use Rattle.qc_site.proofs.Logs.{same_over}
-use Rattle.qc_site.proofs.Refusals.{down_is_disk, write_says}
+use Rattle.qc_site.proofs.Refusals.{down_is_disk, fault_is_down, write_full, write_says}
 use Rattle.qc_site.proofs.site.Site.write.Goals as goal
 
 pub invariant_of-self-in-Err : goal.invariant_of-self-in-Err
@@ -56,5 +57,28 @@ pub returns-in-Err-clause-refused : goal.returns-in-Err-clause-refused
 returns-in-Err-clause-refused g c =
     let old = c.args.self.now in
     let new : SiteState g.D.Disk = record { log = c.write.new.self; replica = c.fall.new.replica; strange = is_some old.strange } in
-    write_says old.log new old.replica c.in-Err.fault c.of_fault.result c.args.ask.now c.args.tuple.now c.grant_of.result c.in-Err.ensures.left c.of_fault.ensures
-    (up_by (log_journal old.log).state (old.journal c.requires.up)) c.requires.up c.fall.ensures.either (λ place is. c.in-Err.ensures.full place (ap (λ x. Err x) is)) c.write.ensures.copies c.grant_of.ensures
+    write_says old.log new old.replica c.in-Err.fault c.of_fault.result c.in-Err.ensures.left c.of_fault.ensures
+    (up_by (log_journal old.log).state (old.journal c.requires.up)) c.requires.up c.fall.ensures.either
+
+pub returns-in-Err-clause-full : goal.returns-in-Err-clause-full
+returns-in-Err-clause-full g c = λ failed.
+    let setting = setting_of g.N.Store.table g.N.Store.base in
+    let old = c.args.self.now in
+    record {
+      tuple = c.args.tuple.now;
+      earlier = old.replica.pass.seen;
+      older = subst (λ (v : View). IsOlder old.replica.pass.seen v.seen) (sym c.fall.ensures.pass) ([], refl);
+      may = subst (λ o. IfSome o (MayGrant setting old.replica.pass.seen (copy_seat g.row.C) g.row.C)) c.requires.hand c.requires.may;
+      given = ap (λ (v : View). grants v.seen g.row.C) c.fall.ensures.pass;
+      too_long = write_full old.log c.write.new.self c.in-Err.fault c.of_fault.result c.args.ask.now c.args.tuple.now c.grant_of.result c.in-Err.ensures.left c.of_fault.ensures
+          (λ place is. c.in-Err.ensures.full place (ap (λ x. Err x) is)) c.write.ensures.copies c.grant_of.ensures failed;
+    }
+
+pub returns-in-Err-clause-counts_once : goal.returns-in-Err-clause-counts_once
+returns-in-Err-clause-counts_once g c = record {
+  once = c.in-Err.ensures.counts_once.once;
+  spared = λ never. c.in-Err.ensures.counts_once.spared (λ failed. never (fault_is_down c.in-Err.fault c.of_fault.result c.of_fault.ensures failed));
+}
+
+pub returns-in-Ok-clause-counts_once : goal.returns-in-Ok-clause-counts_once
+returns-in-Ok-clause-counts_once g c = record { once = c.in-Ok.ensures.counts_once.once; spared = λ never. c.in-Ok.ensures.counts_once.spared (λ failed. absurd cc) }
