@@ -155,6 +155,7 @@ module _ {D : Type 0} {g : Ghosts D} where
               at = ap (λ d. (g.view d).moment) at.mounted;
               left = subst (λ d. LeftAlike (g.view d) (g.view (copy_disk m))) (sym at.mounted) (alike_itself (g.view (copy_disk m)));
             };
+            limit = at.is_copy.limit_is ∙ sym store.mounted.ledger_is.limit_is;
           }
 
       pub copies_found : AreMounted (found_of told parts.book parts.copies.items base) 0 parts.copies.items

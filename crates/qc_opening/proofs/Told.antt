@@ -158,6 +158,8 @@ module _ {D : Type 0} (view : D → DiskView) (plan : ScriptPlan) (most : ℕ) (
           kept = ∥∥₁_map d.kept.kept (λ keeps some. keeps (some_too (offers (copy + 1)) (told (copy + 1)) (tells (copy + 1) (omega (arith, there, run.kept.mounted.as_many))) some));
           grown = ∥∥₁_map d.kept.grown (λ grown some. grown (some_too (offers (copy + 1)) (told (copy + 1)) (tells (copy + 1) (omega (arith, there, run.kept.mounted.as_many))) some));
           paid = d.kept.paid;
+          full = ∥∥₁_map d.kept.full (λ full some. full (some_too (offers (copy + 1)) (told (copy + 1)) (tells (copy + 1) (omega (arith, there, run.kept.mounted.as_many))) some));
+          plain = λ some. d.kept.plain (some_too (offers (copy + 1)) (told (copy + 1)) (tells (copy + 1) (omega (arith, there, run.kept.mounted.as_many))) some);
         };
       }
 

@@ -42,6 +42,7 @@ module _ {D : Type 0} (view : D → DiskView) where
     any_moment = λ told. let l = m.any_moment told in record { later = l.later; each = l.each; earlier = l.earlier };
     grows = λ told index had. let gr = m.grows told index had in record { from_before = gr.from_before; within = gr.within };
     cause = m.cause;
+    once = m.once;
   }
 
   module _ {E : Type 0} (refused : MountNo E) (table : Table) where

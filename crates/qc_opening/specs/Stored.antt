@@ -8,7 +8,7 @@ use Rattle.qc_event.specs.Base.{Setting}
 use Rattle.qc_event.specs.History.{Past, limit}
 use Rattle.qc_event.specs.Legal.{Legal}
 use Rattle.qc_event.specs.Listed.{listed}
-use Rattle.qc_event.specs.Seats.{ledger_seat}
+use Rattle.qc_event.specs.Seats.{copy_seat, ledger_seat}
 use Rattle.qc_event.specs.Tables.{setting_of}
 use Rattle.qc_interp.specs.FollowsScript.{BeginsScript, FollowsScript}
 use Rattle.qc_journal.specs.Image.{HasRecords}
@@ -22,7 +22,7 @@ use Rattle.qc_site.specs.Since.{AreGrantsBy}
 use Rattle.qc_opening.specs.Mountings.{IsMounted}
 use Rattle.qc_system.specs.Closing.{AllKeep}
 use Rattle.qc_system.specs.Grown.{GrownFrom}
-use Rattle.qc_system.specs.Kept.{HadNoRoom, Pays, downs}
+use Rattle.qc_system.specs.Kept.{CopyHadNoRoom, HadNoRoom, NoneStrange, Pays, downs}
 use Rattle.qc_opening.specs.declared.stored.Stored.{Stored}
 
 -- the history that is left, the newest entry first
@@ -46,6 +46,17 @@ AllTell copies told = (number : ℕ) → number ≤ copies → IsSome (told numb
 abbrev pub AreOfRun : Setting → ℕ → Past → List (List ℕ) → Type 0
 AreOfRun setting zero past = AreTopsBy (listed past) past
 AreOfRun setting (suc copy) past = AreGrantsBy setting copy past
+
+-- A store was mounted over disks that told this, for an epoch, with journals up to a limit, and its copies started so. Of each
+-- request that a copy whose disk told its bytes was unable to serve for want of room: at some time it might have made a grant of
+-- it, whose record, behind those of the mounting and one for each of its grants then, would have passed the limit. No such copy
+-- was strange.
+pub record CopiesHadCause (table : Table) (most : ℕ) (told : ℕ → Option (List ℕ)) (epoch : ℕ) (start : List (List Tuple)) (past : Past) : Type 0 where
+  pub records : ℕ → List (List ℕ)
+  pub mounted : IsMounted table told records epoch start
+  pub full : (copy : ℕ) → copy < length start → is_some (told (copy + 1)) ≡ true
+      → ∥ CopyHadNoRoom (setting_of table start) copy (records (copy + 1)) most past (entries_of (copy_seat copy) past) ∥₁
+  pub plain : (copy : ℕ) → copy < length start → is_some (told (copy + 1)) ≡ true → NoneStrange (entries_of (copy_seat copy) past)
 
 module _ {D : Type 0} (view : D → DiskView) where
   -- images are of disks, one of each in their order: each is what a crash may leave

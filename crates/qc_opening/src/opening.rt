@@ -10,7 +10,7 @@ ghost use Rattle.qc_interp.specs.FollowsScript.{FollowsScript, BeginsScript};
 ghost use Rattle.qc_opening.specs.Images.{AreSound, Offers};
 ghost use Rattle.qc_opening.specs.Obtained.{IsNotGiven};
 ghost use Rattle.qc_opening.specs.Refusing.{ComeBack, IsFaultOf, IsNotMounted};
-ghost use Rattle.qc_opening.specs.Stored.{disks_of, past_of, returned, AllTell, AreImages, HasKept, HaveGrown, HavePaid, LedgerWasFull};
+ghost use Rattle.qc_opening.specs.Stored.{disks_of, past_of, returned, AllTell, AreImages, CopiesHadCause, HasKept, HaveGrown, HavePaid, LedgerWasFull};
 ghost use Rattle.qc_refine.specs.Images.{IsStandingWithin, Restores};
 ghost use Rattle.qc_script.specs.Reading.{IsProper};
 ghost use Rattle.qc_script.specs.Steps.{plan_of_script};
@@ -74,7 +74,9 @@ where
     // crash left the records of then, and behind them those of the run up to some time; and no record was lost again.
     // Before, it left what it left of the disk as it was then. For each failure of a disk that the history tells, the disk
     // has counted a fault since the shop gave it. Where the ledger's disk told its bytes, each top that the ledger was
-    // unable to log for want of room would with its record have passed the limit behind what that disk has.
+    // unable to log for want of room would with its record have passed the limit behind what that disk has. So would the
+    // record of each grant that a copy had no room for behind what its disk had then, where that told its bytes; and such a
+    // copy is never strange.
     ensures kept { IfOk result (HasKept H.D.view script.now.table limit
         ((H.view shop.old).offers place.now)) }
     ensures stands { AllTell script.now.table.copies ((H.view shop.old).offers place.now)
@@ -89,6 +91,8 @@ where
         (disks_of stored) (past_of stored)) }
     ensures full { IsSome ((H.view shop.old).offers place.now 0)
         → IfOk result (λ stored. LedgerWasFull H.D.view limit (disks_of stored) (past_of stored)) }
+    ensures unable { IfOk result (λ stored. CopiesHadCause script.now.table limit
+        ((H.view shop.old).offers place.now) stored.epoch stored.ended.start (past_of stored)) }
 
     // Where the shop tells the bytes of all disks, none of them has a fault, or the answer is the first.
     ensures sound { (images : List (List ℕ)) → Offers ((H.view shop.old).offers place.now) images

@@ -16,7 +16,7 @@ use Rattle.qc_opening.specs.Images.{AreSound, IsFirstFault}
 use Rattle.qc_opening.specs.Refusing.{disks_in, ComeBack}
 use Rattle.qc_opening.specs.declared.mount_no.MountNo.{MountNo}
 use Rattle.qc_opening.specs.declared.mount_no.MountNo.TheVariants as no
-use Rattle.qc_opening.specs.Stored.{AllTell, AreImages, HaveGrown, HavePaid, LedgerWasFull}
+use Rattle.qc_opening.specs.Stored.{AllTell, AreImages, CopiesHadCause, HaveGrown, HavePaid, LedgerWasFull}
 use Rattle.qc_refine.specs.Images.{IsStandingWithin, Restores}
 use Rattle.qc_report.specs.Report.{Text}
 use Rattle.qc_script.specs.Plan.{ScriptPlan}
@@ -100,6 +100,7 @@ module _ {D : Type 0} (view : D → DiskView) (s : ScriptPlan) (shop : Shop) (pl
     pub grown : HaveGrown view s.table (shop.offers place) epoch ran.start ran.disks.items (reverse ran.trail)
     pub paid : HavePaid view (shop.counts place) ran.disks.items (reverse ran.trail)
     pub full : IsSome (shop.offers place 0) → LedgerWasFull view journal_limit ran.disks.items (reverse ran.trail)
+    pub unable : CopiesHadCause s.table journal_limit (shop.offers place) epoch ran.start (reverse ran.trail)
 
   -- why no store was mounted, where the shop's count of faults is this now
   abbrev pub IsUnmounted : ℕ → List D → Status → Type 0

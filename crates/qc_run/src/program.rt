@@ -7,7 +7,7 @@ ghost use Rattle.qc_event.specs.Sound.{IsSound};
 ghost use Rattle.qc_event.specs.Tables.{base_of, first_values, setting_of};
 ghost use Rattle.qc_io.specs.Io.{Rose, Keeps, Appends, AppendsFront, Drops, LosesWithin};
 ghost use Rattle.qc_opening.specs.Images.{AreSound, IsFirstFault};
-ghost use Rattle.qc_opening.specs.Stored.{AllTell, AreImages, HaveGrown, HavePaid, LedgerWasFull};
+ghost use Rattle.qc_opening.specs.Stored.{AllTell, AreImages, CopiesHadCause, HaveGrown, HavePaid, LedgerWasFull};
 ghost use Rattle.qc_refine.specs.Images.{IsStandingWithin, Restores};
 ghost use Rattle.qc_script.specs.Plan.{ScriptPlan};
 ghost use Rattle.qc_script.specs.Reading.{IsScript};
@@ -202,6 +202,17 @@ where
         (λ place. IsSome ((H.view shop.old).offers place 0)
         → LedgerWasFull H.D.view terms.journal_limit result.disks.items
         (reverse result.trail))) }
+
+    // Where a copy's disk told its bytes: of each request that it was unable to serve for want of room it might have made a
+    // grant at some time, and with that record behind what the disk had then it would have passed the longest journal; and
+    // the copy was never strange.
+    ensures unable { terms.OfRun (map string_bytes words.now) (S.view source.old).left
+        (S.view source.new).left result
+        (λ s. (epoch : ℕ)
+        × terms.BeginsIn epoch s result.trail
+        × line.AtPlace (map string_bytes words.now)
+        (λ place. CopiesHadCause s.table terms.journal_limit ((H.view shop.old).offers place)
+        epoch result.start (reverse result.trail))) }
 
     // The disks that come back are all that the shop gave: those of the place, from 0 on. None was where there was no
     // script. A mounting that was refused leaves each as it says, also where memory was wanting.

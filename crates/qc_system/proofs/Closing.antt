@@ -17,7 +17,7 @@ use Rattle.qc_desk.specs.Rules.{Has, IsSettled, joined, knows, without}
 use Rattle.qc_desk.proofs.Having.{has_left}
 use Rattle.qc_desk.proofs.Seers.{older_trans}
 use Rattle.qc_system.specs.Closing.{AllKeep, CopyKeeps, DiskKeeps, HaveLeft, Keeping, LedgerKeeps, WasLeft}
-use Rattle.qc_system.specs.Kept.{HadNoRoom, Pays, downs}
+use Rattle.qc_system.specs.Kept.{CopyHadNoRoom, HadNoRoom, NoneStrange, Pays, downs}
 use Rattle.qc_system.specs.Parts.{Findings, IsClosing, IsThere}
 use Rattle.qc_ledger.specs.Since.{AreTopsBy}
 use Rattle.qc_site.specs.Since.{AreGrantsBy}
@@ -26,6 +26,7 @@ use Rattle.qc_system.proofs.Grown.{from_more}
 use Rattle.qc_system.proofs.Left.{keeps_grants_later, keeps_tops_later}
 use Rattle.qc_system.proofs.Listed.{tops_told_later}
 use Rattle.qc_system.proofs.Room.{room_retold}
+use Rattle.qc_system.proofs.Unable.{room_later}
 use Rattle.qc_event.proofs.Numbers.{before_or_at}
 
 module _ {A : Type 0} where
@@ -141,6 +142,10 @@ module _ (setting : Setting) (found : Findings) {D : Type 0} (view : D → Disk)
             kept = ∥∥₁_map was.kept.kept (λ kept told. keeps_grants_later setting k was.seen log since legal own all (found.before (k + 1)) (view was.disk).may_leave (kept told));
             grown = ∥∥₁_map was.kept.grown (λ kept told. from_more (found.first (k + 1)) (found.before (k + 1)) (AreGrantsBy setting k was.seen) (AreGrantsBy setting k log) (view was.disk) (λ bodies are. grants_later setting k was.seen log bodies since are) (kept told));
             paid = subst (λ p. Pays (found.first (k + 1)).faults (downs p) (view was.disk).faults) (sym own) was.kept.paid;
+            full = ∥∥₁_map was.kept.full (λ had told.
+                subst (λ p. CopyHadNoRoom setting k (found.before (k + 1)) found.limit log p) (sym own)
+                (room_later setting k (found.before (k + 1)) found.limit was.seen log (entries_of (copy_seat k) was.seen) since (had told)));
+            plain = λ told. subst NoneStrange (sym own) (was.kept.plain told);
           };
         }
 

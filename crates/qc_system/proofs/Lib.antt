@@ -7,3 +7,4 @@ pub mod Opening
 pub mod Paying
 pub mod Room
 pub mod Standing
+pub mod Unable

@@ -12,7 +12,7 @@ use Rattle.qc_desk.specs.Entries.{IsOlder, entries_of}
 use Rattle.qc_desk.specs.Rules.{Has}
 use Rattle.qc_site.specs.Since.{AreGrantsBy}
 use Rattle.qc_system.specs.Grown.{GrownFrom}
-use Rattle.qc_system.specs.Kept.{HadNoRoom, Pays, downs}
+use Rattle.qc_system.specs.Kept.{CopyHadNoRoom, HadNoRoom, NoneStrange, Pays, downs}
 use Rattle.qc_system.specs.Left.{KeepsGrants, KeepsTops}
 use Rattle.qc_system.specs.Parts.{Findings}
 
@@ -28,11 +28,13 @@ module _ (setting : Setting) (found : Findings) where
     pub paid : Pays (found.first 0).faults (downs (entries_of ledger_seat past)) disk.faults
     pub full : found.told 0 ≡ true → HadNoRoom (listed past) disk.size found.limit (entries_of ledger_seat past)
 
-  -- A copy's disk keeps the copy's grants, where it tells its bytes, and kept those up to then at each moment since the mounting; it pays for each request that it was down for.
+  -- A copy's disk keeps the copy's grants, where it tells its bytes, and kept those up to then at each moment since the mounting; it pays for each request that it was down for. Where it tells, of each request that had no room a grant might have been made, and its record would have passed the limit, and the copy was never strange.
   pub record CopyKeeps (copy : ℕ) (disk : Disk) (past : Past) : Type 0 where
     pub kept : ∥ (found.told (copy + 1) ≡ true → KeepsGrants setting (length found.base) copy (found.before (copy + 1)) disk.may_leave past) ∥₁
     pub grown : ∥ (found.told (copy + 1) ≡ true → GrownFrom (found.first (copy + 1)) (found.before (copy + 1)) (AreGrantsBy setting copy past) disk) ∥₁
     pub paid : Pays (found.first (copy + 1)).faults (downs (entries_of (copy_seat copy) past)) disk.faults
+    pub full : ∥ (found.told (copy + 1) ≡ true → CopyHadNoRoom setting copy (found.before (copy + 1)) found.limit past (entries_of (copy_seat copy) past)) ∥₁
+    pub plain : found.told (copy + 1) ≡ true → NoneStrange (entries_of (copy_seat copy) past)
 
   module _ {D : Type 0} (view : D → Disk) where
     -- The disk at a place was left so by a pass with a number, whose own entries were joined.

@@ -1,17 +1,21 @@
 -- What the disks of a system keep since they were mounted.
-use Rattle.std.specs.Prelude.{◌≡◌, ◌≤◌, ◌+◌, ◌-◌, ◌^◌, ℕ, Bool, true, false, IsTrue, List, length, min}
+use Rattle.std.specs.Prelude.{◌≡◌, ◌≤◌, ◌+◌, ◌-◌, ◌^◌, ◌++◌, ℕ, Bool, true, false, IsTrue, List, length, map, min}
 use Rattle.std.specs.List.{count_by}
 use Rattle.qc_disk.specs.Disk.{DiskView as Disk}
 use Rattle.qc_disk.specs.declared.disk.Disk.{Ghosts}
 use Rattle.qc_event.specs.declared.event.Entry.{Entry}
 use Rattle.qc_event.specs.declared.event.Event.{Event}
 use Rattle.qc_event.specs.declared.event.Event.TheVariants as event
+use Rattle.qc_event.specs.declared.event.Grant.{Grant}
 use Rattle.qc_event.specs.declared.event.Why.TheVariants as why
 use Rattle.qc_event.specs.Base.{Setting}
-use Rattle.qc_event.specs.History.{Past, Name}
+use Rattle.qc_event.specs.Grants.{MayGrant}
+use Rattle.qc_event.specs.History.{Past, Name, grants}
 use Rattle.qc_event.specs.Wants.{IsWant}
 use Rattle.qc_event.specs.Listed.{listed}
 use Rattle.qc_event.specs.Requests.{was_unable}
+use Rattle.qc_event.specs.Seats.{copy_seat}
+use Rattle.qc_journal.specs.Image.{row}
 use Rattle.qc_journal.specs.Journal.{IsTooLong, disk_of, limit_of, place_of}
 use Rattle.qc_ledger.specs.Entered.{KeepsLogged, told_body, tops_of}
 use Rattle.qc_ledger.specs.Since.{AreTopsBy}
@@ -20,6 +24,8 @@ use Rattle.qc_ledger.specs.declared.fault.LedgerNo.TheVariants as no
 use Rattle.qc_ledger.specs.Shelf.{journal_in as journal_of_shelf}
 use Rattle.qc_ledger.specs.declared.shelf.Shelf.{Shelf}
 use Rattle.qc_desk.specs.declared.view.View.{View}
+use Rattle.qc_desk.specs.Entries.{IsOlder}
+use Rattle.qc_site.specs.Back.{grant_body}
 use Rattle.qc_site.specs.Log.{log_journal}
 use Rattle.qc_site.specs.Replica.{Standing}
 use Rattle.qc_site.specs.Since.{AreGrantsBy}
@@ -67,3 +73,25 @@ HadNoRoom told place most own = (top : Name) → IsTrue (was_unable own top why.
 -- so it is behind the ledger's journal, with the names that are listed, and the journal's limit
 abbrev pub HadNoRoomIn : {D : Type 0} {g : Ghosts D} → Shelf D g → View → Type 0
 HadNoRoomIn shelf pass = HadNoRoom (listed pass.seen) (place_of (journal_of_shelf shelf)) (limit_of (journal_of_shelf shelf)) pass.mine
+
+-- At a time up to now a copy might have made a grant of this access, whose record, behind those from before and one for each of
+-- its grants then, would pass a limit.
+pub record WasFullFor (setting : Setting) (copy : ℕ) (before : List (List ℕ)) (most : ℕ) (past : Past) (access : Name) : Type 0 where
+  pub earlier : Past
+  pub older : IsOlder earlier past
+  pub grant : Grant
+  pub of_access : grant.access ≡ access
+  pub may : MayGrant setting earlier (copy_seat copy) copy grant
+  pub too_long : IsTooLong (length (row (before ++ map (grant_body (length setting.base)) (grants earlier copy)))) most (grant_body (length setting.base) grant)
+
+-- so it was of each request that a copy's own entries say it was unable to serve for want of room
+abbrev pub CopyHadNoRoom : Setting → ℕ → List (List ℕ) → ℕ → Past → Past → Type 0
+CopyHadNoRoom setting copy before most past own = (access : Name) → IsTrue (was_unable own access why.Full) → WasFullFor setting copy before most past access
+
+-- no request was refused since a copy's disk does not say what the history says
+abbrev pub NoneStrange : Past → Type 0
+NoneStrange own = (access : Name) → IsTrue (was_unable own access why.Strange) → ⊥
+
+-- where a copy's disk tells its bytes, so it is of the copy's requests
+abbrev pub NoRoomSince : Setting → ℕ → Bool → List (List ℕ) → ℕ → Standing → Type 0
+NoRoomSince setting copy told before most standing = told ≡ true → CopyHadNoRoom setting copy before most standing.pass.seen standing.pass.mine

@@ -3,7 +3,7 @@ use Rattle.std.specs.Prelude.{◌≡◌, ℕ, ◌+◌, ◌-◌, ◌<◌, ◌≤�
 use Rattle.qc_config.specs.declared.tuple.Tuple.{Tuple}
 use Rattle.qc_disk.specs.Disk.{DiskView as Disk}
 use Rattle.qc_disk.specs.declared.disk.Disk.{Ghosts}
-use Rattle.qc_journal.specs.Journal.{disk_of, Keeps}
+use Rattle.qc_journal.specs.Journal.{disk_of, limit_of, Keeps}
 use Rattle.qc_journal.specs.declared.journal.Journal.{Journal}
 use Rattle.qc_event.specs.History.{Past}
 use Rattle.qc_desk.specs.declared.view.View.{View}
@@ -60,6 +60,7 @@ pub record IsMounted {D : Type 0} {g : Ghosts D} (found : Findings) (copy : ℕ)
   pub many : copies_of mounted ≡ length found.base
   pub starts : start_of mounted ≡ slice_index_or found.base copy []
   pub disk : IsFound (found.told (copy + 1)) (found.before (copy + 1)) (found.first (copy + 1)) (records_of mounted) (journal_of mounted)
+  pub limit : limit_of (journal_of mounted) ≡ found.limit
 
 -- the copies from this one on were mounted so, in order
 abbrev pub AreMounted : {D : Type 0} {g : Ghosts D} → Findings → ℕ → List (Mounted D g) → Type 0

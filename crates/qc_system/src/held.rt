@@ -1,20 +1,22 @@
 //! A copy's site in its lock.
-ghost use Rattle.std.specs.Prelude.{◌≡◌, ◌<◌, ◌+◌, [], true, false, IfOk, IsErrOf, length};
+ghost use Rattle.std.specs.Prelude.{◌≡◌, ◌<◌, ◌+◌, [], true, false, IfOk, IsErrOf, is_some, length};
 ghost use Rattle.qc_event.specs.Base.{IsProper};
 ghost use Rattle.qc_event.specs.declared.short.Short.TheVariants.{Room};
 ghost use Rattle.qc_event.specs.History.{limit};
 ghost use Rattle.qc_event.specs.Legal.{Legal};
 ghost use Rattle.qc_event.specs.Seats.{copy_seat};
 ghost use Rattle.qc_event.specs.Tables.{setting_of};
-ghost use Rattle.qc_journal.specs.Journal.{disk_of};
+ghost use Rattle.qc_journal.specs.Journal.{disk_of, limit_of};
 ghost use Rattle.qc_ledger.specs.Entered.{SeesMore};
 ghost use Rattle.qc_desk.specs.Consulting.{HasAsked};
 ghost use Rattle.qc_desk.specs.Entries.{entries_of};
 ghost use Rattle.qc_desk.specs.Known.{IsKnown};
 ghost use Rattle.qc_site.specs.Answers.{HasAnswered};
+ghost use Rattle.qc_site.specs.Calls.{CanServe};
 ghost use Rattle.qc_site.specs.Log.{log_journal};
+ghost use Rattle.qc_site.specs.Sites.{IsByLocks};
 ghost use Rattle.qc_system.specs.Closing.{CopyKeeps};
-ghost use Rattle.qc_system.specs.Kept.{KeepsSince, Pays, downs};
+ghost use Rattle.qc_system.specs.Kept.{KeepsSince, NoRoomSince, NoneStrange, Pays, downs};
 ghost use Rattle.qc_system.specs.Parts.{IsMounted};
 
 use crate::boxed::Boxed;
@@ -26,7 +28,8 @@ use qc_site::{Mounted, Site};
 use std::sync::Wait;
 
 /// A copy's site in its lock. Its disk keeps what was found there at the mounting, and what the copy granted since; so it
-/// did at each moment since the mounting.
+/// did at each moment since the mounting. It pays for each request that the copy was down for. Where it tells its bytes,
+/// the record of each request that had no room would have passed the limit, and the copy is not strange.
 #[derive(Drop)]
 pub(crate) struct Held<D: Disk + Drop, N: Mounting, const C: u8>
 where
@@ -37,6 +40,11 @@ where
         (N.first (C + 1)) site.log site.replica ∥₁ },
     ghost pays: { Pays (N.first (C + 1)).faults (downs site.replica.pass.mine)
         (D.view (disk_of (log_journal site.log)).disk.value).faults },
+    ghost limit: { limit_of (log_journal site.log) ≡ N.limit },
+    ghost full: { ∥ NoRoomSince (setting_of N.table N.base) C (N.told (C + 1)) (N.before (C + 1))
+        N.limit site.replica ∥₁ },
+    ghost plain: { ∥ (N.told (C + 1) ≡ true
+        → (is_some site.strange ≡ false) × NoneStrange site.replica.pass.mine) ∥₁ },
 }
 
 impl<D: Disk + Drop, N: Mounting, const C: u8> Held<D, N, C> {
@@ -66,7 +74,8 @@ impl<D: Disk + Drop, N: Mounting, const C: u8> Held<D, N, C> {
         self.site.crash();
     }
 
-    /// Serves a request that the seer saw, which has then seen what the answer rests on.
+    /// Serves a request that the seer saw, which has then seen what the answer rests on. A copy that answers by its locks is
+    /// up.
     pub(crate) fn serve<R: Wait>(
         &mut self,
         rt: &R,
@@ -78,6 +87,7 @@ impl<D: Disk + Drop, N: Mounting, const C: u8> Held<D, N, C> {
         requires copy { ask.now.copy ≡ C }
         requires asked { HasAsked seer.old.seen ask.now }
         ensures answered { IfOk result (HasAnswered C seer.new.seen ask.now) }
+        ensures serves { IfOk result (λ said. IsByLocks said → CanServe self.new.site.replica) }
         ensures room { IsErrOf result Room → length seer.new.seen ≡ limit }
         ensures seer { SeesMore seer.old seer.new }
         ensures known { IsKnown (setting_of N.table N.base) seer.new }

@@ -87,11 +87,12 @@ copy_failed copy (site.Short short) failed = absurd failed
 
 module _ {D : Type 0} (view : D → DiskView) where
   -- a mounting that did not fail
-  pub mounted_for : (written : List (List ℕ) → List (List ℕ)) (Failed Now : Type 0) (old new : D) → (Now → Failed) → IsMounted view written Failed old new → IsMounted view written Now old new
-  mounted_for written Failed Now old new was mounted = record {
+  pub mounted_for : (written : List (List ℕ) → List (List ℕ)) (Failed Now : Type 0) (old new : D) → (Now → Failed) → (Failed → Now) → IsMounted view written Failed old new → IsMounted view written Now old new
+  mounted_for written Failed Now old new was is mounted = record {
     any_moment = mounted.any_moment;
     grows = mounted.grows;
     cause = record { later = mounted.cause.later; failed = λ now. mounted.cause.failed (was now) };
+    once = record { once = mounted.once.once; spared = λ never. mounted.once.spared (λ failed. never (is failed)) };
   }
 
   module _ (here : (disk : D) (c : List ℕ) → (view disk).left_at (view disk).moment c ↔ (view disk).may_leave c) where
@@ -101,6 +102,7 @@ module _ {D : Type 0} (view : D → DiskView) where
       any_moment = λ told. started view disk (MountLeaves written (view disk).may_leave (view disk).content) (λ c left. inl ((here disk c).0 left));
       grows = λ told index had. grows_by_falls view disk disk (HasAt index had) (falls_none view disk);
       cause = record { later = omega arith; failed = λ failed. absurd (none failed) };
+      once = record { once = omega arith; spared = λ never. refl };
     }
 
     -- disks that were not reached
@@ -124,11 +126,11 @@ module _ {D : Type 0} (view : D → DiskView) where
       → ledger_refusing.IsOfLedgerImage P refusal → IsMounted view written (FailedAt reason 0) old new × IsReasonAt 0 P reason
   ledger_refused written old new refusal reason P is mounted image =
       let Refused : Reason → Type 0 = λ r. IsMounted view written (FailedAt r 0) old new × IsReasonAt 0 P r in
-      subst Refused (sym is) (mounted_for written (refusal ≡ ledger.Disk) (FailedAt (ledger_reason refusal) 0) old new (ledger_failed refusal) mounted, ledger_reason_at P refusal image)
+      subst Refused (sym is) (mounted_for written (refusal ≡ ledger.Disk) (FailedAt (ledger_reason refusal) 0) old new (ledger_failed refusal) (λ failed. subst (λ r. FailedAt (ledger_reason r) 0) (sym failed) refl) mounted, ledger_reason_at P refusal image)
 
   -- a copy's disk that was refused
   pub copy_refused : (copy : ℕ) (written : List (List ℕ) → List (List ℕ)) (old new : D) (refusal : SiteNo) (reason : Reason) (P : ImageFault → Type 0) → reason ≡ copy_reason copy refusal → IsMounted view written (refusal ≡ site.Disk) old new
       → site_refusing.IsOfCopyImage copy P refusal → IsMounted view written (FailedAt reason (copy + 1)) old new × IsReasonAt (copy + 1) P reason
   copy_refused copy written old new refusal reason P is mounted image =
       let Refused : Reason → Type 0 = λ r. IsMounted view written (FailedAt r (copy + 1)) old new × IsReasonAt (copy + 1) P r in
-      subst Refused (sym is) (mounted_for written (refusal ≡ site.Disk) (FailedAt (copy_reason copy refusal) (copy + 1)) old new (copy_failed copy refusal) mounted, copy_reason_at copy P refusal image)
+      subst Refused (sym is) (mounted_for written (refusal ≡ site.Disk) (FailedAt (copy_reason copy refusal) (copy + 1)) old new (copy_failed copy refusal) (λ failed. subst (λ r. FailedAt (copy_reason copy r) (copy + 1)) (sym failed) refl) mounted, copy_reason_at copy P refusal image)

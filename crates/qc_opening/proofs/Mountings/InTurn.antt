@@ -93,7 +93,7 @@ module _ {D : Type 0} {g : Ghosts D} (table : Table) (past : Past) (limit : ℕ)
         (back : GoesBack (λ old new. IsMounted g.view (site.to_write copy table) (FailedAt reason (copy + 1)) old new × IsReasonAt (copy + 1) (P old) reason) waiting after) where
       left_copy : (number : ℕ) (disk : D) (m : Mounted D g) → number < copy → IsCopy table past limit number disk m → IsLeft g.view table (FailedAt reason) (IsBehind reason) (number + 1) disk (copy_disk m)
       left_copy number disk m low is = record {
-        mounted = written_next g.view table number (FailedAt reason (number + 1)) disk (copy_disk m) (mounted_for g.view (site.to_write number table) ⊥ (FailedAt reason (number + 1)) disk (copy_disk m) (not_failed (copy + 1) (P back.before) reason (number + 1) back.became.1 (λ same. omega (arith, low, same))) is.disk_is);
+        mounted = written_next g.view table number (FailedAt reason (number + 1)) disk (copy_disk m) (mounted_for g.view (site.to_write number table) ⊥ (FailedAt reason (number + 1)) disk (copy_disk m) (not_failed (copy + 1) (P back.before) reason (number + 1) back.became.1 (λ same. omega (arith, low, same))) (λ never. absurd never) is.disk_is);
         behind = λ b. absurd (not_behind (copy + 1) (P back.before) reason (number + 1) back.became.1 (omega (arith, low)) b);
       }
 

@@ -86,7 +86,7 @@ module _ {D : Type 0} {g : Ghosts D} (table : Table) (limit : ℕ) where
       left_behind after new left is =
           let disk : D = disk_of (book.journal_of mounted) in
           let it : IsLeft g.view table (FailedAt reason) (IsBehind reason) 0 taken.disk disk = record {
-            mounted = mounted_for g.view (ledger.to_write table) ⊥ (FailedAt reason 0) taken.disk disk (not_first_failed most _ reason among) taken.has.disk_is;
+            mounted = mounted_for g.view (ledger.to_write table) ⊥ (FailedAt reason 0) taken.disk disk (not_first_failed most _ reason among) (λ never. absurd never) taken.has.disk_is;
             behind = λ b. absurd (not_behind_first reason b);
           } in
           let both : AreLeft g.view table reason 0 (taken.disk ∷ mid) (disk ∷ after) = (it, left) in

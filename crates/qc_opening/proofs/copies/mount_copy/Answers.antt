@@ -24,7 +24,7 @@ returns-in-Ok-clause-mounted g c =
         up = told.up;
         start = told.start;
         keeps = told.keeps;
-        disk_is = record { any_moment = told.any_moment; grows = told.grows; cause = told.cause };
+        disk_is = record { any_moment = told.any_moment; grows = told.grows; cause = told.cause; once = told.counts_once };
       };
     }
 
@@ -40,5 +40,5 @@ returns-in-Err-clause-refused g c =
       new_is = c.put_back.ensures.disks;
       became = copy_refused g.D.Disk.view c.args.copy (to_write c.args.copy c.args.table.now) before c.in-Err.disk c.in-Err.no c.copy_reason.result
           (λ fault. IfSome (g.D.Disk.view before).content (IsFirstFault (IsCopyFault c.args.copy c.args.table.now c.args.past.now c.args.limit) fault)) c.copy_reason.ensures
-          (record { any_moment = told.any_moment; grows = told.grows; cause = told.cause }) told.refused;
+          (record { any_moment = told.any_moment; grows = told.grows; cause = told.cause; once = told.counts_once }) told.refused;
     }

@@ -19,7 +19,7 @@ returns-in-Ok-clause-mounted g c =
         mounts = told.mounts;
         limit_is = told.limit;
         keeps = told.keeps;
-        disk_is = record { any_moment = told.any_moment; grows = told.grows; cause = told.cause };
+        disk_is = record { any_moment = told.any_moment; grows = told.grows; cause = told.cause; once = told.counts_once };
       };
     }
 
@@ -35,5 +35,5 @@ returns-in-Err-clause-refused g c =
       new_is = c.put_back.ensures.disks;
       became = ledger_refused g.D.Disk.view (to_write c.args.table.now) before c.in-Err.disk c.in-Err.no c.ledger_reason.result
           (λ fault. IfSome (g.D.Disk.view before).content (IsFirstFault (IsLedgerFault c.args.table.now c.args.limit) fault)) c.ledger_reason.ensures
-          (record { any_moment = told.any_moment; grows = told.grows; cause = told.cause }) told.refused;
+          (record { any_moment = told.any_moment; grows = told.grows; cause = told.cause; once = told.counts_once }) told.refused;
     }

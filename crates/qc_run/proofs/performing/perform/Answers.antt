@@ -42,6 +42,7 @@ returns-in-Ok-clause-answer g c =
         grown = has.grown;
         paid = has.paid;
         full = has.full;
+        unable = has.unable;
       });
     }
 

@@ -75,6 +75,9 @@ returns-clause-paid g c = clause.of_run _ _ _ _ (g.H.Shop.view c.args.shop.now) 
 pub returns-clause-full : goal.returns-clause-full
 returns-clause-full g c = clause.of_run _ _ _ _ (g.H.Shop.view c.args.shop.now) _ _ _ _ _ c.answer.ensures.answer (λ s it has. clause.as_asked (map string_bytes c.args.words.now) it.asked _ it.is_command has.full)
 
+pub returns-clause-unable : goal.returns-clause-unable
+returns-clause-unable g c = clause.of_run _ _ _ _ (g.H.Shop.view c.args.shop.now) _ _ _ _ _ c.answer.ensures.answer (λ s it has. (has.epoch, has.begins, clause.as_asked (map string_bytes c.args.words.now) it.asked _ it.is_command has.unable))
+
 pub returns-clause-output : goal.returns-clause-output
 returns-clause-output g c = λ reported. clause.by_run _ _ _ _ (g.H.Shop.view c.args.shop.now) _ _ _ _ _ c.answer.ensures.answer (clause.reported_ran _ reported) (λ s it wrote has. clause.as_asked (map string_bytes c.args.words.now) it.asked _ it.is_command (wrote.whole reported))
 

@@ -1,11 +1,12 @@
 -- A crash leaves the disk as it is.
-use Rattle.std.proofs.Common.{ℕ, ◌+◌, sym, ap, subst}
+use Rattle.std.proofs.Common.{ℕ, ◌+◌, ◌∙◌, sym, ap, subst}
+use Rattle.std.specs.Prelude.{is_some}
 use Rattle.std.proofs.Math.Logic.{∥∥₁_map}
 use Rattle.qc_event.specs.Tables.{setting_of}
 use Rattle.qc_site.specs.Since.{AreGrantsBy}
 use Rattle.qc_desk.specs.declared.view.View.{View}
 use Rattle.qc_system.specs.Grown.{GrownFrom}
-use Rattle.qc_system.specs.Kept.{Pays, downs}
+use Rattle.qc_system.specs.Kept.{CopyHadNoRoom, NoneStrange, Pays, downs}
 use Rattle.qc_system.proofs.held.Held.crash.Goals as goal
 
 pub invariant_of-self : goal.invariant_of-self
@@ -16,4 +17,8 @@ invariant_of-self g c = let setting = setting_of g.N.Store.table g.N.Store.base 
         (subst (λ b. GrownFrom (g.N.Mounting.first (g.row.C + 1)) (g.N.Mounting.before (g.row.C + 1)) (AreGrantsBy setting g.row.C c.args.self.now.site.replica.pass.seen) (g.D.Disk.view b.disk.value)) (sym c.crash.ensures.disk) (k told).1),
   ));
   pays = subst (λ (p : View × ℕ). Pays (g.N.Mounting.first (g.row.C + 1)).faults (downs p.0.mine) p.1) (λ i. (sym c.crash.ensures.pass i, sym (ap (λ b. (g.D.Disk.view b.disk.value).faults) c.crash.ensures.disk) i)) c.args.self.now.pays;
+  limit = c.crash.ensures.limit ∙ c.args.self.now.limit;
+  full = ∥∥₁_map c.args.self.now.full (λ had told.
+      subst (λ (v : View). CopyHadNoRoom setting g.row.C (g.N.Mounting.before (g.row.C + 1)) g.N.Mounting.limit v.seen v.mine) (sym c.crash.ensures.pass) (had told));
+  plain = ∥∥₁_map c.args.self.now.plain (λ was told. (ap is_some c.crash.ensures.strange ∙ (was told).0, subst (λ (v : View). NoneStrange v.mine) (sym c.crash.ensures.pass) (was told).1));
 }

@@ -1,6 +1,12 @@
 -- What was found on the disk is kept, and nothing of this run.
 use Rattle.std.proofs.Common.{◌+◌, sym, ap, ◌∙◌, subst}
+use mathlib.Core.Bool.{true≢false}
 use Rattle.qc_desk.specs.declared.view.View.{View}
+use Rattle.qc_event.specs.declared.event.Why.{Why}
+use Rattle.qc_event.specs.declared.event.Why.TheVariants as why
+use Rattle.qc_event.specs.History.{Name}
+use Rattle.qc_event.specs.Requests.{was_unable}
+use Rattle.qc_journal.specs.Journal.{limit_of}
 use Rattle.qc_event.specs.Tables.{setting_of}
 use Rattle.qc_site.specs.Since.{GrantsGrow}
 use Rattle.qc_site.specs.Sites.{KeepsGranted}
@@ -15,6 +21,7 @@ invariant_of-result g c =
     let found = c.requires.mounted.disk in
     let first = g.N.Mounting.first (g.row.C + 1) in
     let none = ap (λ (v : View). downs v.mine) c.enter.ensures.pass ∙ ap downs c.requires.fresh.0 in
+    let fresh = λ (access : Name) (w : Why). ap (λ (v : View). was_unable v.mine access w) c.enter.ensures.pass ∙ ap (λ p. was_unable p access w) c.requires.fresh.0 in
     record {
       keeps = ∣ (λ told. (
         subst (λ b. KeepsGranted g.row.C b c.enter.result.log c.enter.result.replica) (sym found.same) (c.enter.ensures.over (found.keeps told)),
@@ -25,4 +32,7 @@ invariant_of-result g c =
       )) ∣₁;
       pays = subst (λ n. Pays first.faults n (faults_of c.enter.result.log.journal)) (sym none)
           (pays_first first.faults (faults_of c.enter.result.log.journal) (found.count ∙ sym (ap faults_of c.enter.ensures.journal)));
+      limit = ap limit_of c.enter.ensures.journal ∙ c.requires.mounted.limit;
+      full = ∣ (λ told access unable. absurd (true≢false (sym unable ∙ fresh access why.Full))) ∣₁;
+      plain = ∣ (λ told. (c.enter.ensures.strange, λ access unable. true≢false (sym unable ∙ fresh access why.Strange))) ∣₁;
     }
