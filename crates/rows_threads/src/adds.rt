@@ -3,8 +3,10 @@
 use crate::command::{Outcome, run_text};
 use crate::text::Text;
 use qc_disk::{MemDisk, MemShop};
+use qc_event::{Entry, Event};
 use qc_run::NoGate;
 use std::alloc::{AllocError, Global};
+use std::collections::BTreeSet;
 use std::sync::Wait;
 use std::thread::Threads;
 
@@ -51,7 +53,25 @@ pub(crate) fn agrees(outcome: &Outcome<MemDisk>) -> bool {
     }
 }
 
-/// How many of so many runs of so many sessions agree.
+// Whether no access was refused twice, or its copy unable to serve it: each request of these sessions is delivered once.
+fn is_refused_once(alloc: Global, entries: &[Entry]) -> Result<bool, AllocError> {
+    let mut refused = BTreeSet::new(alloc);
+    for entry in entries {
+        let access = match &entry.event {
+            Event::Refused { access, .. } => Some(*access),
+            Event::Unable { name, .. } => Some(*name),
+            _ => None,
+        };
+        if let Some(access) = access {
+            if !refused.insert(access)? {
+                return Ok(false);
+            }
+        }
+    }
+    Ok(true)
+}
+
+/// How many of so many runs of so many sessions agree, with no request served twice.
 pub(crate) fn count_agreed<R: Threads + Wait + Sync>(
     handle: &R,
     alloc: Global,
@@ -63,7 +83,8 @@ pub(crate) fn count_agreed<R: Threads + Wait + Sync>(
     for _ in 0..runs {
         let mut shop = MemShop::new(Vec::new(alloc), Vec::new(alloc));
         let outcome = run_text(handle, alloc, "", script.as_str(), &mut shop, &NoGate)?;
-        if agrees(&outcome) {
+        let entries = outcome.ran.trail.to_vec(alloc)?;
+        if agrees(&outcome) && is_refused_once(alloc, entries.as_slice())? {
             agreed = agreed.saturating_add(1);
         }
     }

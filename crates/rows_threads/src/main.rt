@@ -7,7 +7,7 @@
 //!   other; the status, whether the writes met, and whether a transaction was killed. `par OPTION ..` is the same of two
 //!   bodies at once, and `kill OPTION ..` of a session that marks the other's top before it writes.
 //! - `adds SESSIONS RUNS`: each session adds to one record; how many runs counted each top that was committed, and no
-//!   other.
+//!   other, and had no request refused twice, as each is delivered once.
 //! - `follow SEED RUNS OPTION ..`: scripts made from a seed; how many of their histories are legal as the checker has it,
 //!   pass the audit of their saved trail, and follow their script as the judge has it, and whether a transaction was killed.
 //! - `branches SEED RUNS OPTION ..`: the same of scripts that run bodies at once.
