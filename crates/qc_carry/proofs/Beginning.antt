@@ -13,7 +13,7 @@ use Rattle.qc_event.specs.Base.{Setting}
 use Rattle.qc_event.specs.History.{Past, Name, end, children}
 use Rattle.qc_event.specs.Legal.{Legal}
 use Rattle.qc_event.specs.Seats.{is_client}
-use Rattle.qc_event.specs.Standing.{IsOrphanOf, open_child}
+use Rattle.qc_event.specs.Standing.{IsNamedOrphan, open_child}
 use Rattle.qc_managers.specs.Carrying.{MayCarry, next_ask, entry, began}
 use Rattle.qc_managers.specs.declared.carrier.CarryNo.{CarryNo}
 use Rattle.qc_managers.specs.declared.carrier.CarryNo.TheVariants as carry
@@ -110,7 +110,7 @@ module _ (setting : Setting) (v w : View) (m : Name) (copy rec : ℕ) (op : Op) 
   -- IT IS STOPPED BEFORE IT ASKS
 
   -- a started access is below its manager
-  pub managers_orphan : (a : Name) → IsOrphanOf w.seen q.access a → end w.seen m ≡ None → IsOrphanOf w.seen m a
+  pub managers_orphan : (a : Name) → IsNamedOrphan w.seen q.access a → end w.seen m ≡ None → IsNamedOrphan w.seen m a
   managers_orphan a orphan going = parent_orphan w.seen m a (length (children v.seen m) + 1) orphan going
 
   pub stopped_unasked : (u : View) (why : CarryNo) → Walk v u (entry v.number (event.Start q.access kind.Access) ∷ []) → IsStopped u w q.access why → CutUnasked v w m q why

@@ -13,7 +13,7 @@ use Rattle.qc_event.specs.Base.{Setting}
 use Rattle.qc_event.specs.History.{Past, Name, limit, same, gone, refused, refusal_in}
 use Rattle.qc_event.specs.Legal.{Legal}
 use Rattle.qc_event.specs.Requests.{is_fault, was_unable}
-use Rattle.qc_event.specs.Standing.{IsOrphanOf}
+use Rattle.qc_event.specs.Standing.{IsNamedOrphan}
 use Rattle.qc_event.proofs.Absent.{same_itself}
 use Rattle.qc_event.specs.declared.short.Short.{Short}
 use Rattle.qc_event.specs.declared.short.Short.TheVariants as short
@@ -24,19 +24,19 @@ use Rattle.qc_managers.specs.declared.carrier.Carried.{Carried}
 use Rattle.qc_managers.specs.declared.carrier.CarryNo.{CarryNo}
 use Rattle.qc_managers.specs.declared.carrier.CarryNo.TheVariants as no
 use Rattle.qc_desk.specs.declared.view.View.{View}
-use Rattle.qc_desk.proofs.Lasting.{orphan_stays}
 use Rattle.qc_carry.specs.Access.{Ends, IsLeft, IsShort, IsStopped, Waits, ending, orphaning}
 use Rattle.qc_carry.specs.Walk.{Walk}
 use Rattle.qc_carry.proofs.Answered.{unable_still}
 use Rattle.qc_carry.proofs.Course.{go_on}
+use Rattle.qc_carry.proofs.Orphans.{named_stays}
 use Rattle.qc_carry.proofs.OwnStays as own
 use Rattle.qc_carry.proofs.Walking as walking
 
 -- WHAT STAYS
 
 module _ (v w : View) (made : Past) (walk : Walk v w made) (n : Name) where
-  pub still_orphan : (a : Name) → IsOrphanOf v.seen n a → IsOrphanOf w.seen n a
-  still_orphan a orphan = subst (λ p. IsOrphanOf p n a) (sym walk.grown) (orphan_stays walk.newer v.seen n a orphan)
+  pub still_orphan : (a : Name) → IsNamedOrphan v.seen n a → IsNamedOrphan w.seen n a
+  still_orphan a orphan = subst (λ p. IsNamedOrphan p n a) (sym walk.grown) (named_stays walk.newer v.seen n a orphan)
 
   pub still_refused : (r : Refusal) → refused v.seen n ≡ Some r → refused w.seen n ≡ Some r
   still_refused r is = ap (λ p. refused p n) walk.grown ∙ is_stays (λ e. refusal_in n e.event) walk.newer v.seen r is

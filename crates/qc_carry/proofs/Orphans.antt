@@ -10,15 +10,16 @@ use Rattle.qc_event.specs.declared.event.Event.TheVariants as event
 use Rattle.qc_event.specs.declared.event.Refusal.{Refusal}
 use Rattle.qc_event.specs.declared.event.Refusal.TheVariants.{Dead}
 use Rattle.qc_event.specs.Base.{Setting}
-use Rattle.qc_event.specs.Dead.{outcome, outcome_of, is_aborted, ancestors, dead}
+use Rattle.qc_event.specs.Dead.{outcome, outcome_of, is_aborted, ancestors, dead, WasDead}
 use Rattle.qc_event.specs.Grants.{IsRefusal}
 use Rattle.qc_event.specs.History.{Past, Name, same, end, asked, refused, refusal_in}
 use Rattle.qc_event.specs.Legal.{Legal, MayHappen}
-use Rattle.qc_event.specs.Standing.{IsOrphanOf, IsAbort}
+use Rattle.qc_event.specs.Standing.{IsNamedOrphan, IsAbort}
 use Rattle.qc_event.proofs.Absent.{same_is, same_itself}
 use Rattle.qc_event.proofs.AskedAccess.{asked_access}
 use Rattle.qc_event.proofs.Found.{found_holds, found_passes}
 use Rattle.qc_event.proofs.LastNumber.{EndsIn, ends_in, is_ancestor-append, rest_of, same_last}
+use Rattle.qc_event.proofs.NamedOrphans.{is_dead, was_dead, was_dead_above}
 use Rattle.qc_event.proofs.OneEntry.{first_is, if_is, open_before}
 use Rattle.qc_event.proofs.Options.{some_there}
 use Rattle.qc_event.proofs.Outcomes.{aborted_is_abort}
@@ -35,21 +36,27 @@ all_above : (n : Name) → AllByRecursion (Above n) (ancestors n)
 all_above [] = (refl, tt)
 all_above (x ∷ n) = (refl, one_longer x n (ancestors n) (all_above n))
 
-pub orphan_of : (past : Past) (n a : Name) → dead past n ≡ Some a → end past n ≡ None → IsOrphanOf past n a
+pub orphan_of : (past : Past) (n a : Name) → dead past n ≡ Some a → end past n ≡ None → IsNamedOrphan past n a
 orphan_of past n a is going =
     let aborted = found_passes (λ x. is_aborted (outcome past x)) (ancestors n) a is in
     record {
-      above = found_holds (Above n) (λ x. is_aborted (outcome past x)) (ancestors n) a (all_above n) is;
-      not_itself = ap not (false_from_ne_true (same a n) (λ h. true≢false (sym aborted ∙ ap (λ x. is_aborted (outcome past x)) (same_is a n h) ∙ ap (λ o. is_aborted (outcome_of o)) going)));
-      aborted = aborted_is_abort (end past a) aborted;
+      orphan = record {
+        above = found_holds (Above n) (λ x. is_aborted (outcome past x)) (ancestors n) a (all_above n) is;
+        not_itself = ap not (false_from_ne_true (same a n) (λ h. true≢false (sym aborted ∙ ap (λ x. is_aborted (outcome past x)) (same_is a n h) ∙ ap (λ o. is_aborted (outcome_of o)) going)));
+        aborted = aborted_is_abort (end past a) aborted;
+      };
+      shortest = is_dead past n a is;
     }
 
+pub named_stays : (newer past : Past) (n a : Name) → IsNamedOrphan past n a → IsNamedOrphan (newer ++ past) n a
+named_stays newer past n a o = record { orphan = orphan_stays newer past n a o.orphan; shortest = was_dead newer past n a o.shortest }
+
 -- who was first refused as dead, and has not ended, is an orphan of the ancestor that was named
-pub refused_orphan : (setting : Setting) (past : Past) (n a : Name) → Legal setting past → refused past n ≡ Some (Dead a) → end past n ≡ None → IsOrphanOf past n a
+pub refused_orphan : (setting : Setting) (past : Past) (n a : Name) → Legal setting past → refused past n ≡ Some (Dead a) → end past n ≡ None → IsNamedOrphan past n a
 refused_orphan setting [] n a legal is going = absurd cc
 refused_orphan setting (e ∷ past) n a legal is going =
     let before = open_before e past n going in
-    orphan_stays (e ∷ []) past n a (elim (first_is (refused past n) (refusal_in n e.event) (Dead a) is) [
+    named_stays (e ∷ []) past n a (elim (first_is (refused past n) (refusal_in n e.event) (Dead a) is) [
       | inl old ↦ refused_orphan setting past n a legal.0 old before
       | inr new ↦ orphan_of past n a (by_event e.event legal.1 new.1) before
     ])
@@ -66,6 +73,13 @@ refused_orphan setting (e ∷ past) n a legal is going =
         by_reason r parts.1 (subst (λ x. MatchOption (asked past x) ⊥ (λ q. IsRefusal past q.ask r)) (same_is m n parts.0) may.reason)
     by_event _ may here = absurd cc
 
+itself : (p a : Name) (j : ℕ) → not (same a (p ++ j ∷ [])) ≡ true → p ++ j ∷ [] ≡ a → ⊥
+itself p a j not_itself is = apart (same a (p ++ j ∷ [])) not_itself (ap (same a) is ∙ same_itself a)
+  where
+    apart : (b : Bool) → not b ≡ true → b ≡ true → ⊥
+    apart true h is = true≢false (sym h)
+    apart false h is = true≢false (sym is)
+
 -- who is above a child, and not the child itself, is above its parent
 pub above_parent : (p a : Name) (j : ℕ) → name.is_ancestor a (p ++ j ∷ []) ≡ true → not (same a (p ++ j ∷ [])) ≡ true → name.is_ancestor a p ≡ true
 above_parent p a j above not_itself = by_end rest.0 rest.1 (ends_in rest.0)
@@ -73,23 +87,23 @@ above_parent p a j above not_itself = by_end rest.0 rest.1 (ends_in rest.0)
     rest : (r : Name) × (p ++ j ∷ [] ≡ a ++ r)
     rest = rest_of a (p ++ j ∷ []) above
 
-    apart : (b : Bool) → not b ≡ true → b ≡ true → ⊥
-    apart true h is = true≢false (sym h)
-    apart false h is = true≢false (sym is)
-
-    itself : p ++ j ∷ [] ≡ a → ⊥
-    itself is = apart (same a (p ++ j ∷ [])) not_itself (ap (same a) is ∙ same_itself a)
-
     by_end : (r : Name) → p ++ j ∷ [] ≡ a ++ r → (r ≡ []) ⊎ EndsIn r → name.is_ancestor a p ≡ true
-    by_end r is (inl none) = absurd (itself (is ∙ ap (λ x. a ++ x) none ∙ append-nil a))
+    by_end r is (inl none) = absurd (itself p a j not_itself (is ∙ ap (λ x. a ++ x) none ∙ append-nil a))
     by_end r is (inr last) =
         let parts = same_last p (a ++ last.0) j last.1 (is ∙ ap (λ x. a ++ x) last.2 ∙ sym (append_assoc a last.0 (last.1 ∷ []))) in
         ap (name.is_ancestor a) parts.0 ∙ is_ancestor-append a last.0
 
+-- a child's aborted ancestor was the shortest one of its parent too
+pub dead_parent_of : (past : Past) (p a : Name) (j : ℕ) → IsNamedOrphan past (p ++ j ∷ []) a → WasDead past p a
+dead_parent_of past p a j o = was_dead_above past p a j (itself p a j o.orphan.not_itself) o.shortest
+
 -- a child's aborted ancestor is one of its parent that has not ended
-pub parent_orphan : (past : Past) (p a : Name) (j : ℕ) → IsOrphanOf past (p ++ j ∷ []) a → end past p ≡ None → IsOrphanOf past p a
+pub parent_orphan : (past : Past) (p a : Name) (j : ℕ) → IsNamedOrphan past (p ++ j ∷ []) a → end past p ≡ None → IsNamedOrphan past p a
 parent_orphan past p a j o going = record {
-  above = above_parent p a j o.above o.not_itself;
-  not_itself = ap not (false_from_ne_true (same a p) (λ h. subst (λ x. MatchOption x ⊥ IsAbort) (ap (end past) (same_is a p h) ∙ going) o.aborted));
-  aborted = o.aborted;
+  orphan = record {
+    above = above_parent p a j o.orphan.above o.orphan.not_itself;
+    not_itself = ap not (false_from_ne_true (same a p) (λ h. subst (λ x. MatchOption x ⊥ IsAbort) (ap (end past) (same_is a p h) ∙ going) o.orphan.aborted));
+    aborted = o.orphan.aborted;
+  };
+  shortest = dead_parent_of past p a j o;
 }

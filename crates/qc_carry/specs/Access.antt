@@ -11,7 +11,7 @@ use Rattle.qc_event.specs.declared.short.Short.TheVariants.{Memory}
 use Rattle.qc_event.specs.History.{Past, Name, gone, refused, end}
 use Rattle.qc_event.specs.Manager.{Replied, Missing, BlockedBy, Result as Became}
 use Rattle.qc_event.specs.Requests.{is_fault, was_unable}
-use Rattle.qc_event.specs.Standing.{AsksUnder, IsOrphanOf, open_child}
+use Rattle.qc_event.specs.Standing.{AsksUnder, IsNamedOrphan, open_child}
 use Rattle.qc_event.specs.Wants.{IsWant}
 use Rattle.qc_managers.specs.Carrying.{entry, access_entries, became, IsBegun, WasStopped}
 use Rattle.qc_managers.specs.declared.carrier.Carried.{Carried}
@@ -60,7 +60,7 @@ IsShort v w (no.Short short) = Walk v w [] × IsWant w.seen short
 
 -- an access that has started is stopped: it ended as an orphan, or nothing was entered
 abbrev pub IsStopped : View → View → Name → CarryNo → Type 0
-IsStopped v w access (no.Orphan a) = Walk v w (orphaning v.number access a) × IsOrphanOf w.seen access a
+IsStopped v w access (no.Orphan a) = Walk v w (orphaning v.number access a) × IsNamedOrphan w.seen access a
 IsStopped v w access (no.Short short) = Walk v w [] × IsWant w.seen short
 
 -- nothing was entered, or the access was given up
@@ -70,12 +70,12 @@ IsLeft v w access = Walk v w [] ⊎ ((why : Why) × Walk v w (entry v.number (ev
 -- what an access that waits has come to: it ended by what its manager is told, or as an orphan, or it was left
 abbrev pub Ends : View → View → Ask → Result Carried CarryNo → Type 0
 Ends v w ask (Ok told) = Walk v w (ending v.number ask (became told)) × AnswerStands w.seen ask.access told
-Ends v w ask (Err (no.Orphan a)) = Walk v w (orphaning v.number ask.access a) × IsOrphanOf w.seen ask.access a
+Ends v w ask (Err (no.Orphan a)) = Walk v w (orphaning v.number ask.access a) × IsNamedOrphan w.seen ask.access a
 Ends v w ask (Err (no.Short short)) = IsLeft v w ask.access × IsWant w.seen short
 
 -- the entries of an access that was cut off, by why
 abbrev pub IsPart : View → View → Name → Ask → Past → CarryNo → Type 0
-IsPart v w m ask made (no.Orphan a) = WasStopped v.number ask a made × IsOrphanOf w.seen m a × (end w.seen m ≡ None) × (open_child w.seen m ≡ None)
+IsPart v w m ask made (no.Orphan a) = WasStopped v.number ask a made × IsNamedOrphan w.seen m a × (end w.seen m ≡ None) × (open_child w.seen m ≡ None)
 IsPart v w m ask made (no.Short short) = IsBegun v.number ask made × IsWant w.seen short
 
 -- a manager's next access was cut off

@@ -5,7 +5,7 @@ ghost use Rattle.qc_event.specs.declared.event.Cause.TheVariants as cause;
 ghost use Rattle.qc_event.specs.declared.event.Event.TheVariants as event;
 ghost use Rattle.qc_event.specs.declared.event.How.TheVariants.{Abort as Aborts};
 ghost use Rattle.qc_event.specs.Requests.{is_fault, was_unable};
-ghost use Rattle.qc_event.specs.Standing.{IsOrphanOf};
+ghost use Rattle.qc_event.specs.Standing.{IsNamedOrphan};
 ghost use Rattle.qc_event.specs.Tables.{setting_of};
 ghost use Rattle.qc_managers.specs.Carrying.{entry};
 ghost use Rattle.qc_desk.specs.Known.{IsKnown};
@@ -84,7 +84,7 @@ pub(crate) fn orphaned<R: Wait, N: Store>(
 ) -> CarryNo
     requires client { IsClient pass.old }
     requires own { IsOwnAccess pass.old.seen pass.old.number access.now }
-    requires orphan { IsOrphanOf pass.old.seen access.now ancestor.now }
+    requires orphan { IsNamedOrphan pass.old.seen access.now ancestor.now }
     ensures stopped { IsStopped pass.old pass.new access.now result }
     ensures known { IsKnown (setting_of N.table N.base) pass.new }
 {

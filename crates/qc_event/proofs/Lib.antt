@@ -22,6 +22,7 @@ pub mod Orderly
 pub mod Lawful
 pub mod LegalOrderly
 pub mod Lineage
+pub mod NamedOrphans
 pub mod RootAndTops
 pub mod OwnRequests
 pub mod KindFits

@@ -7,7 +7,7 @@ use Rattle.qc_event.specs.declared.event.How.TheVariants.{Commit, Abort}
 use Rattle.qc_event.specs.declared.event.Kind.{Kind}
 use Rattle.qc_event.specs.declared.event.Kind.TheVariants as kind
 use Rattle.qc_event.specs.History.{Past, Name, Begun, same, start, end, asked, IsOpen, children}
-use Rattle.qc_event.specs.Dead.{dead}
+use Rattle.qc_event.specs.Dead.{dead, WasDead}
 
 -- the kind is a user transaction
 abbrev pub IsUser : Kind → Type 0
@@ -60,3 +60,8 @@ pub record IsOrphanOf (past : Past) (n a : Name) : Type 0 where
   pub above : IsTrue (name.is_ancestor a n)
   pub not_itself : IsTrue (not (same a n))
   pub aborted : MatchOption (end past a) ⊥ IsAbort
+
+-- It is an orphan of this ancestor, which was its shortest aborted one at some time.
+pub record IsNamedOrphan (past : Past) (n a : Name) : Type 0 where
+  pub orphan : IsOrphanOf past n a
+  pub shortest : WasDead past n a

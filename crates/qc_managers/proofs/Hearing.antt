@@ -5,6 +5,7 @@ use Rattle.std.specs.List.{AllByRecursion, cons_option}
 use Rattle.std.specs.Option.{option_or, option_map}
 use Rattle.std.proofs.lemmas.List.Elements.{All-append, All-filter, All-from_recursion, recursion_from_All, filter-append, filter_map-append}
 use Rattle.qc_event.specs.Base.{Setting}
+use Rattle.qc_event.specs.Dead.{WasDead}
 use Rattle.qc_event.specs.declared.event.Ask.{Ask}
 use Rattle.qc_event.specs.declared.event.Entry.{Entry}
 use Rattle.qc_event.specs.declared.event.Kind.{Kind}
@@ -116,7 +117,8 @@ refused_of setting others Names seat m k way (carry.Orphan a) one stopped =
         not_ended = subst (λ n. end way.now n ≡ None) one.its stopped.not_ended;
         children_ended = subst (λ n. open_child way.now n ≡ None) one.its stopped.children_ended;
       };
-      licensed = subst (λ n. IsOrphanOf way.now n a) one.its stopped.orphan;
+      licensed = subst (λ n. IsOrphanOf way.now n a) one.its stopped.orphan.orphan;
+      shortest = subst (λ n. WasDead way.now n a) one.its stopped.orphan.shortest;
     }
 refused_of setting others Names seat m k way (carry.Short short) one cut = cut.1
 

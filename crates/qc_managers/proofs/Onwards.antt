@@ -76,7 +76,7 @@ module _ (a now : CarrierView) (m : Name) (k : Kind) (kept : Gathered) (h : HasG
 
   -- its number is at the last one
   pub at_last : is_last k (newest now.seen first m) (greatest now.seen m) ≡ true → ManagerIsRefused a.setting a.seat now.seen m k mgr.Last
-  at_last last = record { running = h.collected.goes_on.running; licensed = and_from (is_enough now.seen m here) _ h.collected.enough last }
+  at_last last = record { running = h.collected.goes_on.running; licensed = and_from (is_enough now.seen m here) _ h.collected.enough last; shortest = tt }
 
   -- the stage after the collection
   pub at_first : (s : Stage) (later : List Stage) → is_last k (newest now.seen first m) (greatest now.seen m) ≡ false → stages now.seen first m k ≡ here ∷ s ∷ later → is_phase Collect s.phase ≡ false → s.phase ≡ phase_of s.op → IsAtStage a now m k (here ∷ []) s later

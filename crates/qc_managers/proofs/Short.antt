@@ -103,5 +103,5 @@ refused_short setting seat past m k s goes at none =
     by_cause (shortage_in s.phase (told_in past m s.phase)) (by_first past m s goes.each_told none (blocked_in (told_in past m s.phase)) refl (blocked-told past m s.phase))
   where
     by_cause : (short : Shortage) → FailedBy past m s goes.each_told none short → ManagerIsRefused setting seat past m k (no_of short)
-    by_cause (shortage.Conflict copy holder) h = record { running = goes.running; licensed = at_stage (stage past (first_for setting k) m k) s (FailedByConflict past m copy holder) at h }
-    by_cause (shortage.NoQuorum lack) h = record { running = goes.running; licensed = at_stage (stage past (first_for setting k) m k) s (FailedByLack past m lack) at h }
+    by_cause (shortage.Conflict copy holder) h = record { running = goes.running; licensed = at_stage (stage past (first_for setting k) m k) s (FailedByConflict past m copy holder) at h; shortest = tt }
+    by_cause (shortage.NoQuorum lack) h = record { running = goes.running; licensed = at_stage (stage past (first_for setting k) m k) s (FailedByLack past m lack) at h; shortest = tt }

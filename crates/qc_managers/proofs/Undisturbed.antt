@@ -91,7 +91,7 @@ module _ (setting : Setting) (past : Past) (m : Name) (k : Kind) (before now : �
 
 -- where an access was not carried to an answer, memory or room was wanting
 pub shortage_of : (setting : Setting) (way : Carriage) (m : Name) (k : Kind) (before now : ℕ) (why : CarryNo) → way.manager ≡ m → WasNotCarried way why → IsUndisturbed setting way.now m k before now → IsShortage (mgr_no why)
-shortage_of setting way m k before now (carry.Orphan a) its stopped u = never_orphan setting way.now m k before now u a (subst (λ n. IsOrphanOf way.now n a) its stopped.orphan)
+shortage_of setting way m k before now (carry.Orphan a) its stopped u = never_orphan setting way.now m k before now u a (subst (λ n. IsOrphanOf way.now n a) its stopped.orphan.orphan)
 shortage_of setting way m k before now (carry.Short short) its cut u = tt
 
 -- what is not disturbed since a time is not disturbed since a later one

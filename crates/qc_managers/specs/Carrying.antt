@@ -17,7 +17,7 @@ use Rattle.qc_event.specs.Counts.{Rose}
 use Rattle.qc_event.specs.History.{Past, Name, start, end, children, asks}
 use Rattle.qc_event.specs.Manager.{Result, Replied, Missing, BlockedBy, result, AtStage}
 use Rattle.qc_event.specs.Requests.{IsNextAsk, was_unable}
-use Rattle.qc_event.specs.Standing.{IsManager, open_child, IsOrphanOf}
+use Rattle.qc_event.specs.Standing.{IsManager, open_child, IsNamedOrphan}
 use Rattle.qc_event.specs.Wants.{IsWant}
 use Rattle.qc_managers.specs.declared.carrier.Carried.{Carried}
 use Rattle.qc_managers.specs.declared.carrier.Carried.TheVariants as carried
@@ -158,12 +158,13 @@ pub record WasCarried (way : Carriage) (r : Result) : Type 0 where
   pub not_ended : end way.now way.manager ≡ None
   pub children_ended : open_child way.now way.manager ≡ None
 
--- The access was stopped, since this ancestor of the manager is aborted. The manager has no open access.
+-- The access was stopped, since this ancestor of the manager is aborted, the shortest such at some time. The manager has
+-- no open access.
 pub record WasOrphaned (way : Carriage) (a : Name) : Type 0 where
   pub made : Past
   pub stopped : WasStopped way.seat way.ask a made
   pub added : own_now way ≡ made ++ own_before way
-  pub orphan : IsOrphanOf way.now way.manager a
+  pub orphan : IsNamedOrphan way.now way.manager a
   pub not_ended : end way.now way.manager ≡ None
   pub children_ended : open_child way.now way.manager ≡ None
 

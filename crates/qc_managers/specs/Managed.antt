@@ -3,6 +3,7 @@ use Rattle.std.specs.Prelude.{ℕ, ◌≡◌, IsTrue, Option, Some, None, MatchO
 use Rattle.qc_event.specs.Aborts.{ManagerCause}
 use Rattle.qc_event.specs.Base.{Setting}
 use Rattle.qc_event.specs.Commits.{manager_answer}
+use Rattle.qc_event.specs.Dead.{WasDead}
 use Rattle.qc_event.specs.declared.event.Answer.{Answer}
 use Rattle.qc_event.specs.declared.event.Cause.{Cause}
 use Rattle.qc_event.specs.declared.event.Cause.TheVariants as cause
@@ -32,10 +33,16 @@ cause_of (no.NoQuorum lack) = Some (cause.NoQuorum lack)
 cause_of no.Last = Some cause.Last
 cause_of (no.Short short) = None
 
+-- an ancestor that a cause names was the shortest aborted one at some time
+abbrev pub NamesShortest : Past → Name → Cause → Type 0
+NamesShortest past m (cause.Orphan a) = WasDead past m a
+NamesShortest past m _ = Unit {0}
+
 -- A manager that runs may end for this cause.
 pub record MayEndFor (setting : Setting) (seat : ℕ) (past : Past) (m : Name) (k : Kind) (c : Cause) : Type 0 where
   pub running : IsRunning seat past m k
   pub licensed : ManagerCause setting past m k c
+  pub shortest : NamesShortest past m c
 
 -- where memory or room was wanting, what that says
 abbrev pub IsShort : Past → MgrNo → Type 0

@@ -14,7 +14,7 @@ use Rattle.qc_event.specs.declared.event.Kind.{Kind}
 use Rattle.qc_event.specs.declared.event.Kind.TheVariants as kind
 use Rattle.qc_event.specs.declared.short.Short.{Short}
 use Rattle.qc_event.specs.declared.event.Why.TheVariants as reason
-use Rattle.qc_event.specs.Dead.{dead, outcome, is_committed, is_aborted, is_live}
+use Rattle.qc_event.specs.Dead.{dead, outcome, is_committed, is_aborted, is_live, WasDead}
 use Rattle.qc_event.specs.History.{Past, Name, limit, same, start, end, is_ready, is_child}
 use Rattle.qc_event.specs.Seats.{is_client}
 use Rattle.qc_event.specs.Requests.{was_unable}
@@ -149,23 +149,29 @@ abbrev pub IsForChild : Cause → Type 0
 IsForChild (cause.Child child) = Unit {0}
 IsForChild c = ⊥
 
--- An abort was refused: nothing was made, and it had ended or was ready, or the cause does not hold, or it was want of
--- memory or room. No transaction with an aborted ancestor is aborted for a child.
+-- An abort was refused: nothing was made, and it had ended, or was ready and had not, or the cause does not hold, or it was
+-- want of memory or room. No transaction with an aborted ancestor, of which the shortest is told, is aborted for a child.
 abbrev pub NotAborted : Client → Name → Cause → Past → Past → TxNo → Type 0
 NotAborted c of why before now (tx_no.Short short) = Made c [] before now × IsWant now short
 NotAborted c of why before now tx_no.Ended = Made c [] before now × ((is_some (end now of) ≡ true) ⊎ IsNone now why)
-NotAborted c of why before now tx_no.Ready = Made c [] before now × (is_ready now of ≡ true)
-NotAborted c of why before now (tx_no.Orphan a) = Made c [] before now × IsForChild why × Refuses now of (tx_no.Orphan a)
+NotAborted c of why before now tx_no.Ready = Made c [] before now × (is_ready now of ≡ true) × (is_live (outcome now of) ≡ true)
+NotAborted c of why before now (tx_no.Orphan a) = Made c [] before now × IsForChild why × Refuses now of (tx_no.Orphan a) × (dead now of ≡ Some a)
 NotAborted c of why before now _ = ⊥
 
--- A manager gave no answer: it did not start, ended for the cause that the call tells, or was cut off.
+-- A manager did not start: nothing was made, and this was exactly against it.
+abbrev pub WasNotStarted : Client → Name → Past → Past → TxNo → Type 0
+WasNotStarted c of before now why = Made c [] before now × Refuses now of why × RefusesChild now of why
+
+-- A manager gave no answer: it did not start, ended for the cause that the call tells, or was cut off. The ancestor of
+-- which it is an orphan was the shortest aborted one at some time.
 abbrev pub GaveNone : Client → Name → Kind → Past → Past → TxNo → Type 0
-GaveNone c of k before now (tx_no.Orphan a) = Refuses now of (tx_no.Orphan a) × (Made c [] before now ⊎ Ran c of k (Abort (cause.Orphan a)) before now)
+GaveNone c of k before now (tx_no.Orphan a) =
+    Refuses now of (tx_no.Orphan a) × WasDead now of a × (WasNotStarted c of before now (tx_no.Orphan a) ⊎ Ran c of k (Abort (cause.Orphan a)) before now)
 GaveNone c of k before now (tx_no.Conflict copy holder) = Ran c of k (Abort (cause.Conflict copy holder)) before now
 GaveNone c of k before now (tx_no.NoQuorum lack) = Ran c of k (Abort (cause.NoQuorum lack)) before now
 GaveNone c of k before now tx_no.Last = Ran c of k (Abort cause.Last) before now
-GaveNone c of k before now (tx_no.Short short) = (Made c [] before now ⊎ WasCut c of k before now) × IsWant now short
-GaveNone c of k before now why = WasRefused c of before now why
+GaveNone c of k before now (tx_no.Short short) = (WasNotStarted c of before now (tx_no.Short short) ⊎ WasCut c of k before now) × IsWant now short
+GaveNone c of k before now why = WasNotStarted c of before now why
 
 -- COMMITS
 

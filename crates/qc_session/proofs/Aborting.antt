@@ -120,7 +120,7 @@ module _ (setting : Setting) (v w : View) (c : Client) (for : IsFor setting v w 
   not_aborted : (why : Cause) (no : TxNo) → IsUnaborted v w n no → NotAborted c n why v.seen w.seen no
   not_aborted why (tx_no.Short s) h = (none h.0, h.1)
   not_aborted why tx_no.Ended h = (none h.0, inl h.1)
-  not_aborted why tx_no.Ready h = (none h.0, h.1)
+  not_aborted why tx_no.Ready h = (none h.0, h.1, h.2)
   not_aborted why (tx_no.Orphan a) h = absurd h
   not_aborted why (tx_no.Conflict copy holder) h = absurd h
   not_aborted why (tx_no.NoQuorum lack) h = absurd h
@@ -135,8 +135,8 @@ module _ (setting : Setting) (v w : View) (c : Client) (for : IsFor setting v w 
   unfounded : (why : Cause) (no : TxNo) → IsUnfounded v w n why no → NotAborted c n why v.seen w.seen no
   unfounded why tx_no.Ended h = (none h.0, h.1)
   unfounded why (tx_no.Short s) h = (none h.0, h.1)
-  unfounded why tx_no.Ready h = (none h.0, h.1)
-  unfounded why (tx_no.Orphan a) h = (none h.0, h.1, h.2)
+  unfounded why tx_no.Ready h = (none h.0, h.1, h.2)
+  unfounded why (tx_no.Orphan a) h = (none h.0, h.1, h.2, h.3)
   unfounded why (tx_no.Conflict copy holder) h = absurd h
   unfounded why (tx_no.NoQuorum lack) h = absurd h
   unfounded why tx_no.Last h = absurd h
@@ -150,7 +150,7 @@ module _ (setting : Setting) (v w : View) (c : Client) (for : IsFor setting v w 
 -- what was not aborted as it was seen later, was not from the first
 unaborted_on : (v u w : View) (n : Name) (why : Cause) (no : TxNo) → Walk v u [] → IsUnaborted u w n no → IsUnfounded v w n why no
 unaborted_on v u w n why tx_no.Ended first h = (walking.walk_on v u w [] [] first h.0, inl h.1)
-unaborted_on v u w n why tx_no.Ready first h = (walking.walk_on v u w [] [] first h.0, h.1)
+unaborted_on v u w n why tx_no.Ready first h = (walking.walk_on v u w [] [] first h.0, h.1, h.2)
 unaborted_on v u w n why (tx_no.Short s) first h = (walking.walk_on v u w [] [] first h.0, h.1)
 unaborted_on v u w n why (tx_no.Orphan x) first h = absurd h
 unaborted_on v u w n why (tx_no.Conflict copy holder) first h = absurd h
@@ -165,9 +165,9 @@ all_unaborted_on v u w n why (Err e) first h = unaborted_on v u w n why e first 
 
 unfounded_on : (v u w : View) (n : Name) (why : Cause) (no : TxNo) → Walk v u [] → IsUnfounded u w n why no → IsUnfounded v w n why no
 unfounded_on v u w n why tx_no.Ended first h = (walking.walk_on v u w [] [] first h.0, h.1)
-unfounded_on v u w n why tx_no.Ready first h = (walking.walk_on v u w [] [] first h.0, h.1)
+unfounded_on v u w n why tx_no.Ready first h = (walking.walk_on v u w [] [] first h.0, h.1, h.2)
 unfounded_on v u w n why (tx_no.Short s) first h = (walking.walk_on v u w [] [] first h.0, h.1)
-unfounded_on v u w n why (tx_no.Orphan x) first h = (walking.walk_on v u w [] [] first h.0, h.1, h.2)
+unfounded_on v u w n why (tx_no.Orphan x) first h = (walking.walk_on v u w [] [] first h.0, h.1, h.2, h.3)
 unfounded_on v u w n why (tx_no.Conflict copy holder) first h = absurd h
 unfounded_on v u w n why (tx_no.NoQuorum lack) first h = absurd h
 unfounded_on v u w n why tx_no.Last first h = absurd h

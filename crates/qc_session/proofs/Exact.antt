@@ -1,12 +1,11 @@
 -- That a desk's refusal, and the ledger's, is the first that holds.
 use Rattle.std.proofs.Common.{◌≡◌, inl, inr, Bool, true, false, refl, sym, ap, subst}
 use Rattle.std.specs.Prelude.{Option, None, Some, if◌then◌else◌}
-use Rattle.std.specs.Option.{option_or}
 use Rattle.std.proofs.lemmas.Option.{none-some, same_Some}
 use Rattle.qc_event.proofs.OneEntry.{none_before}
-use Rattle.qc_event.specs.Dead.{outcome, outcome_of, is_committed, is_live}
+use Rattle.qc_event.specs.Dead.{outcome, is_committed, is_live}
 use Rattle.qc_event.specs.History.{Past, Name, is_ready}
-use Rattle.qc_desk.proofs.Entering.{alive, closed, not_ended, unready}
+use Rattle.qc_desk.proofs.Entering.{alive, closed, unready}
 use Rattle.qc_desk.specs.declared.refusal.DeskNo.{DeskNo}
 use Rattle.qc_desk.specs.declared.refusal.DeskNo.TheVariants as desk
 use Rattle.qc_desk.specs.Refusing.{Refuses as Against, IsShort, against_child, against_commit, against_ready, if_committed, if_dead, if_ended, if_open, if_ready}
@@ -15,7 +14,7 @@ use Rattle.qc_ledger.specs.declared.fault.LedgerNo.TheVariants as ledger
 use Rattle.qc_script.specs.Calls.{CanCommit, RefusesChild, RefusesCommit, TakesChildren}
 use Rattle.qc_system.specs.Kept.{HasRefused}
 use Rattle.qc_session.specs.Acting.{log_no, no_of}
-use Rattle.qc_session.proofs.Refused.{dead_says, open_says, ready_says}
+use Rattle.qc_session.proofs.Refused.{dead_says, in_turn, live, open_says, ready_says}
 
 -- A TEST THAT FAILS, AND ONE THAT DOES NOT
 
@@ -39,16 +38,6 @@ ended_first past n why is = by_test (is_live (outcome past n)) refl is
     by_test : (b : Bool) → is_live (outcome past n) ≡ b → (if b then None else Some desk.Ended) ≡ Some why → (why ≡ desk.Ended) × (is_live (outcome past n) ≡ false)
     by_test true h is = absurd (none-some why is)
     by_test false h is = (sym (same_Some desk.Ended why is), h)
-
-live : (past : Past) (n : Name) → if_ended past n ≡ None → is_live (outcome past n) ≡ true
-live past n none = ap (λ o. is_live (outcome_of o)) (not_ended past n none)
-
--- IN TURN
-
--- the first that fails: this test, or where it does not fail one behind it
-in_turn : (P : DeskNo → Type 0) (first rest : Option DeskNo) → ((why : DeskNo) → first ≡ Some why → P why) → (first ≡ None → (why : DeskNo) → rest ≡ Some why → P why) → (why : DeskNo) → option_or first rest ≡ Some why → P why
-in_turn P None rest here behind why is = behind refl why is
-in_turn P (Some x) rest here behind why is = here why is
 
 module _ (past : Past) (n : Name) where
   abbrev Child : DeskNo → Type 0

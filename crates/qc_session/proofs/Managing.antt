@@ -20,12 +20,13 @@ use Rattle.qc_event.specs.declared.short.Short.{Short}
 use Rattle.qc_event.specs.declared.short.Short.TheVariants as short
 use Rattle.qc_event.specs.History.{Past, Name, Begun, same, start, end, is_child, children}
 use Rattle.qc_event.specs.Legal.{Legal}
-use Rattle.qc_event.specs.Standing.{IsManager, IsOrphanOf, Started, open_child}
+use Rattle.qc_event.specs.Standing.{IsManager, IsNamedOrphan, Started, open_child}
 use Rattle.qc_event.proofs.LastNumber.{is_child-last, length_last}
 use Rattle.qc_event.proofs.Later.{start_still}
+use Rattle.qc_event.proofs.NamedOrphans.{is_dead}
 use Rattle.qc_carry.specs.Acting.{IsNoAccess}
 use Rattle.qc_carry.specs.Walk.{Walk}
-use Rattle.qc_carry.proofs.Orphans.{above_parent, orphan_of}
+use Rattle.qc_carry.proofs.Orphans.{above_parent, dead_parent_of, named_stays, orphan_of}
 use Rattle.qc_carry.proofs.Walking as walking
 use Rattle.qc_carry.proofs.Walks as walks
 use Rattle.qc_managers.specs.Carrying.{HasGrown, IsRunning, entry, made_by}
@@ -36,11 +37,10 @@ use Rattle.qc_desk.specs.Calling.{Refused}
 use Rattle.qc_desk.specs.Entries.{IsSince}
 use Rattle.qc_desk.specs.Own.{CommitsOwn, IsMine}
 use Rattle.qc_desk.specs.Refusing.{against_abort, against_commit}
-use Rattle.qc_desk.proofs.Lasting.{orphan_stays}
-use Rattle.qc_managers.specs.Managed.{IsAnswered, ManagerIsRefused, IsShort, MayEndFor, cause_of}
+use Rattle.qc_managers.specs.Managed.{IsAnswered, ManagerIsRefused, IsShort, MayEndFor, NamesShortest, cause_of}
 use Rattle.qc_managers.specs.declared.no.MgrNo.{MgrNo}
 use Rattle.qc_managers.specs.declared.no.MgrNo.TheVariants as no
-use Rattle.qc_script.specs.Calls.{GaveNone, IsOfAccess, Ran, Refuses, WasCut, WasRefused, is_asked}
+use Rattle.qc_script.specs.Calls.{GaveNone, IsOfAccess, Ran, RefusesChild, WasCut, WasRefused, is_asked}
 use Rattle.qc_script.specs.Client.{Client, Made}
 use Rattle.qc_script.specs.declared.tx.TxNo.{TxNo}
 use Rattle.qc_script.specs.declared.tx.TxNo.TheVariants as tx_no
@@ -141,7 +141,7 @@ module _ (setting : Setting) (v w : View) (n : Name) (k : Kind) (manages : IsMan
       ∙ ap (λ p. option_or (end v.seen n) (end p n)) walk.own ∙ ap (λ o. option_or o None) runs.not_ended
 
   -- it is an orphan where it is dead
-  pub dead_orphan : (a : Name) → Refused (against_commit n) v w (desk.Orphan a) → IsOrphanOf w.seen n a
+  pub dead_orphan : (a : Name) → Refused (against_commit n) v w (desk.Orphan a) → IsNamedOrphan w.seen n a
   dead_orphan a r = orphan_of w.seen n a (commit_dead w.seen n a r.1) still_open
 
   -- it runs still
@@ -154,13 +154,21 @@ module _ (setting : Setting) (v w : View) (n : Name) (k : Kind) (manages : IsMan
 
 -- HOW IT CLOSES
 
+-- who ends as an orphan was one before, and is one still
+pub orphan_at_end : (v w : View) (n a : Name) → Ends v w n (Abort (cause.Orphan a)) → IsNamedOrphan v.seen n a → IsNamedOrphan w.seen n a
+orphan_at_end v w n a ends orphan = subst (λ p. IsNamedOrphan p n a) (sym ends.grown) (named_stays ends.newer v.seen n a orphan)
+
 module _ (setting : Setting) (v w : View) (n : Name) (k : Kind) where
   -- it was aborted for its cause
   pub closed_for : (reason : MgrNo) (x : Cause) → cause_of reason ≡ Some x → MayEndFor setting v.number v.seen n k x → Ends v w n (Abort x) → NotClosed v w n (told reason)
   closed_for (no.Orphan a) x is may ends =
       let same : x ≡ cause.Orphan a = cc in
-      let orphan : IsOrphanOf v.seen n a = subst (ManagerCause setting v.seen n k) same may.licensed in
-      (subst (λ y. Ends v w n (Abort y)) same ends, subst (λ p. IsOrphanOf p n a) (sym ends.grown) (orphan_stays ends.newer v.seen n a orphan))
+      let orphan : IsNamedOrphan v.seen n a = record {
+        orphan = subst (ManagerCause setting v.seen n k) same may.licensed;
+        shortest = subst (NamesShortest v.seen n) same may.shortest;
+      } in
+      let ended = subst (λ y. Ends v w n (Abort y)) same ends in
+      (ended, orphan_at_end v w n a ended orphan)
   closed_for (no.Conflict copy holder) x is may ends = let same : x ≡ cause.Conflict copy holder = cc in subst (λ y. Ends v w n (Abort y)) same ends
   closed_for (no.NoQuorum lack) x is may ends = let same : x ≡ cause.NoQuorum lack = cc in subst (λ y. Ends v w n (Abort y)) same ends
   closed_for no.Last x is may ends = let same : x ≡ cause.Last = cc in subst (λ y. Ends v w n (Abort y)) same ends
@@ -236,11 +244,15 @@ module _ (setting : Setting) (v w x y : View) (c : Client) (for : IsFor setting 
     made = subst (λ s. Made c (inner ++ (entry s (event.Start n k) ∷ [])) v.seen y.seen) (sym for.number) (made_so setting v y c for legal _ (walking.walk_on v x y _ [] so_far walk));
   }
 
-  refuses : (a : Name) → IsOrphanOf y.seen n a → Refuses y.seen of (tx_no.Orphan a)
-  refuses a orphan = (above_parent of a j (ap (name.is_ancestor a) (sym h.named) ∙ orphan.above) (ap (λ m. not (same a m)) (sym h.named) ∙ orphan.not_itself), orphan.aborted)
+  -- its ancestor is one of the transaction for which it ran
+  below : (a : Name) → IsNamedOrphan y.seen n a → IsNamedOrphan y.seen (of ++ j ∷ []) a
+  below a orphan = subst (λ m. IsNamedOrphan y.seen m a) h.named orphan
+
+  gave_orphan : (a : Name) → Ran c of k (Abort (cause.Orphan a)) v.seen y.seen → IsNamedOrphan y.seen (of ++ j ∷ []) a → GaveNone c of k v.seen y.seen (tx_no.Orphan a)
+  gave_orphan a ran o = ((above_parent of a j o.orphan.above o.orphan.not_itself, o.orphan.aborted), dead_parent_of y.seen of a j o, inr ran)
 
   gave_none : (why : TxNo) → NotClosed x y n why → GaveNone c of k v.seen y.seen why
-  gave_none (tx_no.Orphan a) not = (refuses a not.1, inr (ran (Abort (cause.Orphan a)) refl not.0))
+  gave_none (tx_no.Orphan a) not = gave_orphan a (ran (Abort (cause.Orphan a)) refl not.0) (below a not.1)
   gave_none (tx_no.Conflict copy holder) not = ran (Abort (cause.Conflict copy holder)) refl not
   gave_none (tx_no.NoQuorum lack) not = ran (Abort (cause.NoQuorum lack)) refl not
   gave_none tx_no.Last not = ran (Abort cause.Last) refl not
@@ -271,13 +283,13 @@ carried_tidy setting v w x of n k manages h runs g carried legal was = subst (λ
     manager = subst (λ o. MatchOption o ⊥ (λ (b : Begun). IsManager b.kind)) (sym runs.started) manages
 
 -- it did not start
-pub refused_gave : (c : Client) (of : Name) (k : Kind) (before now : Past) (why : TxNo) → WasRefused c of before now why → GaveNone c of k before now why
-refused_gave c of k before now (tx_no.Orphan a) h = (h.1, inl h.0)
-refused_gave c of k before now (tx_no.Conflict copy holder) h = absurd h.1
-refused_gave c of k before now (tx_no.NoQuorum lack) h = absurd h.1
-refused_gave c of k before now tx_no.Last h = absurd h.1
-refused_gave c of k before now (tx_no.Short s) h = (inl h.0, h.1)
-refused_gave c of k before now tx_no.Ended h = h
-refused_gave c of k before now (tx_no.ChildrenOpen child) h = absurd h
-refused_gave c of k before now tx_no.Ready h = h
-refused_gave c of k before now tx_no.Ledger h = absurd h.1
+pub refused_gave : (c : Client) (of : Name) (k : Kind) (before now : Past) (why : TxNo) → WasRefused c of before now why → RefusesChild now of why → GaveNone c of k before now why
+refused_gave c of k before now (tx_no.Orphan a) h exact = (h.1, is_dead now of a exact.1, inl (h.0, h.1, exact))
+refused_gave c of k before now (tx_no.Conflict copy holder) h exact = absurd h.1
+refused_gave c of k before now (tx_no.NoQuorum lack) h exact = absurd h.1
+refused_gave c of k before now tx_no.Last h exact = absurd h.1
+refused_gave c of k before now (tx_no.Short s) h exact = (inl (h.0, h.1, exact), h.1)
+refused_gave c of k before now tx_no.Ended h exact = (h.0, h.1, exact)
+refused_gave c of k before now (tx_no.ChildrenOpen child) h exact = absurd h
+refused_gave c of k before now tx_no.Ready h exact = (h.0, h.1, exact)
+refused_gave c of k before now tx_no.Ledger h exact = absurd h.1

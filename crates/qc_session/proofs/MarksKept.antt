@@ -15,7 +15,7 @@ use Rattle.qc_event.specs.History.{Past, Name}
 use Rattle.qc_desk.specs.declared.view.View.{View as Pass}
 use Rattle.qc_desk.specs.Entries.{IsOlder}
 use Rattle.qc_desk.specs.Rules.{numbers}
-use Rattle.qc_script.specs.Calls.{AreOfAccesses, by_client, Committed, GaveNone, IsOfAccess, MadeReady, NotAborted, NotCommitted, Ran, WasCut, WasRefused}
+use Rattle.qc_script.specs.Calls.{AreOfAccesses, by_client, Committed, GaveNone, IsOfAccess, MadeReady, NotAborted, NotCommitted, Ran, WasCut, WasNotStarted, WasRefused}
 use Rattle.qc_script.specs.Client.{Client, Made}
 use Rattle.qc_script.specs.declared.tx.TxNo.{TxNo}
 use Rattle.qc_script.specs.declared.tx.TxNo.TheVariants as tx_no
@@ -52,19 +52,19 @@ module _ (c : Client) (marks : List Mark) (before now : Past) where
   did_refused of (tx_no.ChildrenOpen child) h = absurd h
   did_refused of _ h = did_none h.0
 
-  none_or_cut : (of : Name) (k : Kind) → Made c [] before now ⊎ WasCut c of k before now → Did
-  none_or_cut of k h = ⊎_elim did_none (did_cut of k) h
+  did_not_start : (of : Name) (why : TxNo) → WasNotStarted c of before now why → Did
+  did_not_start of why h = did_none h.0
 
   did_gave_none : (of : Name) (k : Kind) (why : TxNo) → GaveNone c of k before now why → Did
-  did_gave_none of k (tx_no.Orphan a) h = ⊎_elim did_none (did_run of k (Abort (cause.Orphan a))) h.1
+  did_gave_none of k (tx_no.Orphan a) h = ⊎_elim (did_not_start of (tx_no.Orphan a)) (did_run of k (Abort (cause.Orphan a))) h.2
   did_gave_none of k (tx_no.Conflict copy holder) h = did_run of k (Abort (cause.Conflict copy holder)) h
   did_gave_none of k (tx_no.NoQuorum lack) h = did_run of k (Abort (cause.NoQuorum lack)) h
   did_gave_none of k tx_no.Last h = did_run of k (Abort cause.Last) h
-  did_gave_none of k (tx_no.Short s) h = none_or_cut of k h.0
+  did_gave_none of k (tx_no.Short s) h = ⊎_elim (did_not_start of (tx_no.Short s)) (did_cut of k) h.0
   did_gave_none of k tx_no.Ended h = did_none h.0
   did_gave_none of k tx_no.Ready h = did_none h.0
   did_gave_none of k tx_no.Ledger h = did_none h.0
-  did_gave_none of k (tx_no.ChildrenOpen child) h = absurd h
+  did_gave_none of k (tx_no.ChildrenOpen child) h = absurd h.2
 
   did_not_aborted : (of : Name) (why : Cause) (no : TxNo) → NotAborted c of why before now no → Did
   did_not_aborted of why (tx_no.Short s) h = did_none h.0

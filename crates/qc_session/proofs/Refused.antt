@@ -17,6 +17,7 @@ use Rattle.qc_event.proofs.OneEntry.{start_stays, start_now}
 use Rattle.qc_event.proofs.Outcomes.{aborted_is_abort}
 use Rattle.qc_event.specs.Wants.{IsWant}
 use Rattle.qc_event.specs.declared.short.Short.{Short}
+use Rattle.qc_desk.proofs.Entering.{not_ended}
 use Rattle.qc_desk.specs.declared.refusal.DeskNo.{DeskNo}
 use Rattle.qc_desk.specs.declared.refusal.DeskNo.TheVariants as desk
 use Rattle.qc_desk.specs.Refusing.{Refuses as Against, IsShort, against_abort, against_child, against_commit, against_ready, if_committed, if_dead, if_ended, if_open, if_ready}
@@ -109,10 +110,16 @@ open_says past n why is = by_found (open_child past n) refl is
     by_found None at h = absurd (none-some why h)
     by_found (Some c) at h = (c, sym (same_Some (desk.ChildrenOpen c) why h), at)
 
--- the first test that fails is the first or one behind it
+-- the first that fails: this test, or where it does not fail one behind it
+pub in_turn : (P : DeskNo → Type 0) (first rest : Option DeskNo) → ((why : DeskNo) → first ≡ Some why → P why) → (first ≡ None → (why : DeskNo) → rest ≡ Some why → P why) → (why : DeskNo) → option_or first rest ≡ Some why → P why
+in_turn P None rest here behind why is = behind refl why is
+in_turn P (Some x) rest here behind why is = here why is
+
 either : (P : DeskNo → Type 0) (first rest : Option DeskNo) → ((why : DeskNo) → first ≡ Some why → P why) → ((why : DeskNo) → rest ≡ Some why → P why) → (why : DeskNo) → option_or first rest ≡ Some why → P why
-either P None rest here behind why is = behind why is
-either P (Some x) rest here behind why is = here why is
+either P first rest here behind why is = in_turn P first rest here (λ none. behind) why is
+
+pub live : (past : Past) (n : Name) → if_ended past n ≡ None → is_live (outcome past n) ≡ true
+live past n none = ap (λ o. is_live (outcome_of o)) (not_ended past n none)
 
 -- THE CALLS
 
@@ -175,9 +182,9 @@ abort_says n v w why walk (inr (free, want)) = by_want why want
     by_want desk.Ended h = absurd h
     by_want (desk.ChildrenOpen x) h = absurd h
     by_want desk.Ready h = absurd h
-abort_says n v w why walk (inl is) = either (λ x. IsUnaborted v w n (no_of x)) (if_ended w.seen n) _
+abort_says n v w why walk (inl is) = in_turn (λ x. IsUnaborted v w n (no_of x)) (if_ended w.seen n) _
     (λ x h. let s = ended_says w.seen n x h in subst (λ y. IsUnaborted v w n (no_of y)) (sym s.0) (walk, s.1))
-    (λ x h. let s = ready_says w.seen n x h in subst (λ y. IsUnaborted v w n (no_of y)) (sym s.0) (walk, s.1))
+    (λ before x h. let s = ready_says w.seen n x h in subst (λ y. IsUnaborted v w n (no_of y)) (sym s.0) (walk, s.1, live w.seen n before))
     why is
 
 -- a manager that is refused as an orphan is dead

@@ -1,6 +1,7 @@
 -- Why a desk or the ledger did not do what a client asked, as it tells its session.
 use Rattle.std.specs.Prelude.{ℕ, ◌≡◌, ◌≤◌, ◌⊎◌, true, [], is_some, Option, None, Some}
 use Rattle.qc_carry.specs.Walk.{Walk}
+use Rattle.qc_event.specs.Dead.{dead, is_live, outcome}
 use Rattle.qc_event.specs.Base.{Setting}
 use Rattle.qc_event.specs.declared.event.Cause.{Cause}
 use Rattle.qc_event.specs.declared.event.Kind.{Kind}
@@ -48,17 +49,17 @@ short_of _ = Memory
 abbrev pub IsWanting : View → View → Short → Type 0
 IsWanting v w short = Walk v w [] × IsWant w.seen short
 
--- nothing was entered: a transaction had ended, or was ready, or memory or room was wanting
+-- nothing was entered: a transaction had ended, or was ready and had not, or memory or room was wanting
 abbrev pub IsUnaborted : View → View → Name → TxNo → Type 0
 IsUnaborted v w n tx_no.Ended = Walk v w [] × (is_some (end w.seen n) ≡ true)
-IsUnaborted v w n tx_no.Ready = Walk v w [] × (is_ready w.seen n ≡ true)
+IsUnaborted v w n tx_no.Ready = Walk v w [] × (is_ready w.seen n ≡ true) × (is_live (outcome w.seen n) ≡ true)
 IsUnaborted v w n (tx_no.Short short) = Walk v w [] × IsWant w.seen short
 IsUnaborted v w n _ = ⊥
 
--- so it was, or the cause does not hold, or an ancestor is aborted where the cause is a child
+-- so it was, or the cause does not hold, or an ancestor, of which this is the shortest, is aborted where the cause is a child
 abbrev pub IsUnfounded : View → View → Name → Cause → TxNo → Type 0
 IsUnfounded v w n why tx_no.Ended = Walk v w [] × ((is_some (end w.seen n) ≡ true) ⊎ IsNone w.seen why)
-IsUnfounded v w n why (tx_no.Orphan a) = Walk v w [] × IsForChild why × Refuses w.seen n (tx_no.Orphan a)
+IsUnfounded v w n why (tx_no.Orphan a) = Walk v w [] × IsForChild why × Refuses w.seen n (tx_no.Orphan a) × (dead w.seen n ≡ Some a)
 IsUnfounded v w n why refused = IsUnaborted v w n refused
 
 -- the aborted ancestor, where a desk refused for one

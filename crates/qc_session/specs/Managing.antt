@@ -9,7 +9,7 @@ use Rattle.qc_event.specs.declared.event.How.TheVariants.{Commit, Abort}
 use Rattle.qc_event.specs.declared.event.Kind.{Kind}
 use Rattle.qc_event.specs.declared.event.Kind.TheVariants as kind
 use Rattle.qc_event.specs.History.{Past, Name, children}
-use Rattle.qc_event.specs.Standing.{IsOrphanOf}
+use Rattle.qc_event.specs.Standing.{IsNamedOrphan}
 use Rattle.qc_event.specs.Wants.{IsWant}
 use Rattle.qc_managers.specs.Carrying.{entry}
 use Rattle.qc_desk.specs.declared.view.View.{View}
@@ -41,7 +41,7 @@ Ends v w n how = Walk v w (entry v.number (event.End n how) ∷ [])
 
 -- A manager was aborted, and its client is told why; or want of memory or room left it open.
 abbrev pub NotClosed : View → View → Name → TxNo → Type 0
-NotClosed v w n (tx_no.Orphan a) = Ends v w n (Abort (cause.Orphan a)) × IsOrphanOf w.seen n a
+NotClosed v w n (tx_no.Orphan a) = Ends v w n (Abort (cause.Orphan a)) × IsNamedOrphan w.seen n a
 NotClosed v w n (tx_no.Conflict copy holder) = Ends v w n (Abort (cause.Conflict copy holder))
 NotClosed v w n (tx_no.NoQuorum lack) = Ends v w n (Abort (cause.NoQuorum lack))
 NotClosed v w n tx_no.Last = Ends v w n (Abort cause.Last)

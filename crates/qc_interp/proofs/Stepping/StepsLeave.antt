@@ -19,7 +19,7 @@ use Rattle.qc_event.proofs.Later.{started_still}
 use Rattle.qc_event.proofs.Options.{some_match}
 use Rattle.qc_event.specs.declared.short.Short.{Short}
 use Rattle.qc_names.specs.Name as name
-use Rattle.qc_script.specs.Calls.{Ran, Refuses, GaveNone, WasCut, IsOfSession}
+use Rattle.qc_script.specs.Calls.{Ran, Refuses, GaveNone, WasCut, WasNotStarted, IsOfSession}
 use Rattle.qc_script.specs.Client.{Client, mine, is_own, scope, concerns, Made, IsLater, AreOurs}
 use Rattle.qc_interp.specs.Deeds.{Deed, deeds}
 use Rattle.qc_interp.proofs.Following.Deeds.{one_child_more}
@@ -150,8 +150,8 @@ module _ (c : Client) (of : Name) where
   -- why a transaction stops whose manager gave no answer
   pub manage_stops : (k : Kind) (before mid : Past) (why : TxNo) → KindFits c.setting k → Runs c of before → GaveNone c of k before mid why → ((s : Short) → why ≡ tx_no.Short s → ⊥) → Runs c of mid × WhyStop c mid of why
   manage_stops k before mid (tx_no.Short s) fits runs none other = absurd (other s refl)
-  manage_stops k before mid (tx_no.Orphan a) fits runs none other = elim none.1 [
-    | inl m ↦ (runs_still c of before mid m runs, none.0)
+  manage_stops k before mid (tx_no.Orphan a) fits runs none other = elim none.2 [
+    | inl m ↦ (runs_still c of before mid m.0 runs, none.0)
     | inr ran ↦ (runs_managed k _ _ before mid (managed c of k _ before mid runs.nonroot ran) runs, none.0)
   ]
   manage_stops k before mid (tx_no.Conflict copy holder) fits runs ran other =
@@ -165,7 +165,7 @@ module _ (c : Client) (of : Name) where
       (runs_managed k _ _ before mid m runs, user_cause k _ _ before mid (manages c.setting k fits) m)
   manage_stops k before mid tx_no.Ended fits runs none other = (runs_still c of before mid none.0 runs, none.1)
   manage_stops k before mid tx_no.Ready fits runs none other = (runs_still c of before mid none.0 runs, none.1)
-  manage_stops k before mid (tx_no.ChildrenOpen child) fits runs none other = absurd none
+  manage_stops k before mid (tx_no.ChildrenOpen child) fits runs none other = absurd none.2
   manage_stops k before mid tx_no.Ledger fits runs none other = absurd none.1
 
   -- it stops without a child
@@ -206,8 +206,8 @@ module _ (c : Client) (of : Name) where
 
   pub manage_over : (k : Kind) (before mid now : Past) (why : TxNo) (again : Bool) (next : Answer → Plan) → Runs c of before → GaveNone c of k before mid why → ((s : Short) → why ≡ tx_no.Short s → ⊥) → Stopped c of why mid now again → Ended c of before now (Plan.manage_by k next) (finish.Stopped again)
   manage_over k before mid now (tx_no.Short s) again next runs none other stopped = absurd (other s refl)
-  manage_over k before mid now (tx_no.Orphan a) again next runs none other stopped = elim none.1 [
-    | inl m ↦ stopped_still before mid now _ again _ m stopped (λ s. orphan_early a _ s)
+  manage_over k before mid now (tx_no.Orphan a) again next runs none other stopped = elim none.2 [
+    | inl m ↦ stopped_still before mid now _ again _ m.0 stopped (λ s. orphan_early a _ s)
     | inr ran ↦ stopped_managed k _ _ before mid now _ again next runs (managed c of k _ before mid runs.nonroot ran) stopped (λ s. inr (orphan_early a _ s))
   ]
   manage_over k before mid now (tx_no.Conflict copy holder) again next runs ran other stopped =
@@ -218,7 +218,7 @@ module _ (c : Client) (of : Name) where
       stopped_managed k _ _ before mid now _ again next runs (managed c of k _ before mid runs.nonroot ran) stopped (λ s. handed_on cause.Last _ refl s)
   manage_over k before mid now tx_no.Ended again next runs none other stopped = stopped_still before mid now _ again _ none.0 stopped (λ s. asked_early of _ s)
   manage_over k before mid now tx_no.Ready again next runs none other stopped = stopped_still before mid now _ again _ none.0 stopped (λ s. asked_early of _ s)
-  manage_over k before mid now (tx_no.ChildrenOpen child) again next runs none other stopped = absurd none
+  manage_over k before mid now (tx_no.ChildrenOpen child) again next runs none other stopped = absurd none.2
   manage_over k before mid now tx_no.Ledger again next runs none other stopped = absurd none.1
 
   -- A MANAGER THAT WAS CUT OFF, OR AFTER WHICH ITS TRANSACTION WAS
@@ -277,15 +277,15 @@ module _ (c : Client) (of : Name) where
   pub manage_short : (k : Kind) (before now : Past) (why : TxNo) (next : Answer → Plan) (s : Short) → why ≡ tx_no.Short s → Runs c of before → GaveNone c of k before now why → CutOff c of before now (Plan.manage_by k next)
   manage_short k before now why next s is runs none = either (subst (GaveNone c of k before now) is none).0
     where
-      either : Made c [] before now ⊎ WasCut c of k before now → CutOff c of before now (Plan.manage_by k next)
-      either (inl m) = cut_still c of before now runs m (Plan.manage_by k next)
+      either : WasNotStarted c of before now (tx_no.Short s) ⊎ WasCut c of k before now → CutOff c of before now (Plan.manage_by k next)
+      either (inl m) = cut_still c of before now runs m.0 (Plan.manage_by k next)
       either (inr cut) = cut_interrupted k cut.manager before now next runs (interrupted c of k before now runs.nonroot cut)
 
   -- a manager gave no answer for another reason, and nothing was made after it
   pub manage_cut : (k : Kind) (before mid now : Past) (why : TxNo) (next : Answer → Plan) → Runs c of before → GaveNone c of k before mid why → ((s : Short) → why ≡ tx_no.Short s → ⊥) → Made c [] mid now → CutOff c of before now (Plan.manage_by k next)
   manage_cut k before mid now (tx_no.Short s) next runs none other made = absurd (other s refl)
-  manage_cut k before mid now (tx_no.Orphan a) next runs none other made = elim none.1 [
-    | inl m ↦ cut_still c of before now runs (made_both c before mid now m made) (Plan.manage_by k next)
+  manage_cut k before mid now (tx_no.Orphan a) next runs none other made = elim none.2 [
+    | inl m ↦ cut_still c of before now runs (made_both c before mid now m.0 made) (Plan.manage_by k next)
     | inr ran ↦ cut_managed k _ _ before mid now next runs (managed c of k _ before mid runs.nonroot ran) made
   ]
   manage_cut k before mid now (tx_no.Conflict copy holder) next runs ran other made = cut_managed k _ _ before mid now next runs (managed c of k _ before mid runs.nonroot ran) made
@@ -293,7 +293,7 @@ module _ (c : Client) (of : Name) where
   manage_cut k before mid now tx_no.Last next runs ran other made = cut_managed k _ _ before mid now next runs (managed c of k _ before mid runs.nonroot ran) made
   manage_cut k before mid now tx_no.Ended next runs none other made = cut_still c of before now runs (made_both c before mid now none.0 made) (Plan.manage_by k next)
   manage_cut k before mid now tx_no.Ready next runs none other made = cut_still c of before now runs (made_both c before mid now none.0 made) (Plan.manage_by k next)
-  manage_cut k before mid now (tx_no.ChildrenOpen child) next runs none other made = absurd none
+  manage_cut k before mid now (tx_no.ChildrenOpen child) next runs none other made = absurd none.2
   manage_cut k before mid now tx_no.Ledger next runs none other made = absurd none.1
 
   -- A COPY CRASHES

@@ -19,7 +19,8 @@ pub returns-in-Some-clause-err : goal.returns-in-Some-clause-err
 returns-in-Some-clause-err g c =
     let v = c.args.line.now.pass in
     let u = c.dead-fallen.new.self.pass in
-    (of_shown v u c.args.line.now.client c.dead-fallen.ensures.looked, tt, dead_refuses u.seen c.args.target.now c.in-Some.ancestor (sym c.dead-fallen.ensures.dead ∙ c.in-Some.is))
+    let is = sym c.dead-fallen.ensures.dead ∙ c.in-Some.is in
+    (of_shown v u c.args.line.now.client c.dead-fallen.ensures.looked, tt, dead_refuses u.seen c.args.target.now c.in-Some.ancestor is, is)
 
 pub abort_with_child-requires-clause-user : goal.abort_with_child-requires-clause-user
 abort_with_child-requires-clause-user g c =

@@ -1,14 +1,12 @@
 -- A manager commits with its answer, or ends as an orphan, or memory or room was wanting.
 use Rattle.qc_carry.proofs.Walking.{of_entered, of_looked}
-use Rattle.qc_event.specs.Standing.{IsOrphanOf}
 use Rattle.qc_event.specs.Tables.{setting_of}
 use Rattle.qc_event.specs.declared.event.Event.TheVariants as event
 use Rattle.qc_event.specs.declared.event.How.TheVariants.{Commit as Commits}
-use Rattle.qc_desk.proofs.Lasting.{orphan_stays}
 use Rattle.qc_desk.specs.Calling.{Refused}
 use Rattle.qc_desk.specs.Refusing.{against_commit}
 use Rattle.qc_desk.specs.declared.view.View.{View}
-use Rattle.qc_session.proofs.Managing.{commit_wanting, dead_orphan, is_told, manager_mine, not_closed_on, running_on, wanting_on}
+use Rattle.qc_session.proofs.Managing.{commit_wanting, dead_orphan, is_told, manager_mine, not_closed_on, orphan_at_end, running_on, wanting_on}
 use Rattle.qc_session.proofs.Tidy.{manager_tidy}
 use Rattle.qc_session.specs.Acting.{IsWanting}
 use Rattle.std.proofs.Common.{ap, refl, sym, ◌∙◌, subst}
@@ -26,10 +24,12 @@ abort_manager-requires g c =
     let r = subst (Refused (against_commit c.args.name.now) c.args.line.now.pass c.end-ended.new.self.pass) (is_told c.in-Err.no c.in-Some.ancestor (sym c.orphan_told.ensures ∙ c.in-Some.is)) c.in-Err.ensures.err in
     let runs = c.requires.answered.running in
     let walk = of_looked v u r.0 in
+    let orphan = dead_orphan (setting_of g.N.Store.table g.N.Store.base) v u c.args.name.now (manager_for c.args.what.now) (is_manager c.args.what.now) runs (seen_legal c.end-ended.new.self.known) walk c.in-Some.ancestor r in
     record {
       may = record {
         running = running_on (setting_of g.N.Store.table g.N.Store.base) v u c.args.name.now (manager_for c.args.what.now) (is_manager c.args.what.now) runs (seen_legal c.end-ended.new.self.known) walk r.0.0;
-        licensed = dead_orphan (setting_of g.N.Store.table g.N.Store.base) v u c.args.name.now (manager_for c.args.what.now) (is_manager c.args.what.now) runs (seen_legal c.end-ended.new.self.known) walk c.in-Some.ancestor r;
+        licensed = orphan.orphan;
+        shortest = orphan.shortest;
       };
     }
 
@@ -45,7 +45,7 @@ returns-in-Ok-abort_manager-clause-err g c =
     let walk = of_looked v u r.0 in
     let ends = c.in-Ok-abort_manager.ensures.ok in
     let orphan = dead_orphan (setting_of g.N.Store.table g.N.Store.base) v u c.args.name.now (manager_for c.args.what.now) (is_manager c.args.what.now) c.requires.answered.running (seen_legal c.end-ended.new.self.known) walk c.in-Some.ancestor r in
-    (not_closed_on v u w c.args.name.now c.in-Some.ancestor walk ends, subst (λ p. IsOrphanOf p c.args.name.now c.in-Some.ancestor) (sym ends.grown) (orphan_stays ends.newer u.seen c.args.name.now c.in-Some.ancestor orphan))
+    (not_closed_on v u w c.args.name.now c.in-Some.ancestor walk ends, orphan_at_end u w c.args.name.now c.in-Some.ancestor ends orphan)
 
 pub returns-in-Err-abort_manager-clause-err : goal.returns-in-Err-abort_manager-clause-err
 returns-in-Err-abort_manager-clause-err g c =

@@ -21,7 +21,7 @@ start_child-requires-clause-stands g c =
     subst (StandsBelow (setting_of g.N.Store.table g.N.Store.base) (length c.args.of.now + 1)) (sym c.kind.ensures) (manages_below (setting_of g.N.Store.table g.N.Store.base) (length c.args.of.now + 1) (manager_for c.args.what.now) c.requires.fits)
 
 pub returns-in-Err-clause-err : goal.returns-in-Err-clause-err
-returns-in-Err-clause-err g c = λ client for. refused_gave client c.args.of.now (manager_for c.args.what.now) c.args.line.now.pass.seen c.start_child.new.line.pass.seen c.in-Err.why (c.in-Err.ensures.err client for)
+returns-in-Err-clause-err g c = λ client for. refused_gave client c.args.of.now (manager_for c.args.what.now) c.args.line.now.pass.seen c.start_child.new.line.pass.seen c.in-Err.why (c.in-Err.ensures.err client for) c.in-Err.ensures.refused
 
 pub ask-came_to-requires-clause-manager : goal.ask-came_to-requires-clause-manager
 ask-came_to-requires-clause-manager g c =
