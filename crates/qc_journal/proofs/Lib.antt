@@ -4,3 +4,5 @@ mod Appends
 mod Reopens
 pub mod Readings
 mod Growing
+mod Resets
+mod TornFront

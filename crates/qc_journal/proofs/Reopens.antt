@@ -33,18 +33,24 @@ ends_blank place (body ∷ bodies) image ends short =
     let all = length-append (row (body ∷ bodies)) (ends.gate ∷ ends.rest) in
     absurd (omega (arith, same, all, short))
 
--- what is found in the bytes of a disk that keeps records
-pub found_ends : (place : ℕ) (bodies : List (List ℕ)) (hand : Option (List ℕ)) (told : Option (List ℕ)) (bytes : List ℕ) (size : ℕ) (found : Found) → told ≡ Some bytes → HasLength told size → ImageStands place bodies hand bytes → Finds told size found
+-- what is found in bytes that have records
+pub found_some : (told : Option (List ℕ)) (bytes : List ℕ) (size : ℕ) (found : Found) → told ≡ Some bytes → HasLength told size → (p : ℕ) (b : List (List ℕ)) → EndsAt p b bytes → Finds told size found
     → EndsAt found.place (found_bodies found) bytes
-found_ends place bodies hand told bytes size found is has stands finds =
+found_some told bytes size found is has p b ends finds =
     let long : size ≡ length bytes = subst (λ t. HasLength t size) is has in
     elim (cases_lt 1 size) [
       | inl longer ↦ subst (λ t. IfSome t (EndsAt found.place (found_bodies found))) is (finds.records longer)
       | inr short ↦
-          let some = stands_ends place bodies hand bytes stands in
-          let blank = ends_blank some.0 some.1 bytes some.2 (omega (arith, long, short)) in
+          let blank = ends_blank p b bytes ends (omega (arith, long, short)) in
           subst (λ p. EndsAt p (found_bodies found) bytes) (sym (finds.at_start short)) (subst (λ (b : List (List ℕ)). EndsAt 0 b bytes) (sym (finds.none short)) blank)
     ]
+
+-- and in those of a disk that keeps records
+pub found_ends : (place : ℕ) (bodies : List (List ℕ)) (hand : Option (List ℕ)) (told : Option (List ℕ)) (bytes : List ℕ) (size : ℕ) (found : Found) → told ≡ Some bytes → HasLength told size → ImageStands place bodies hand bytes → Finds told size found
+    → EndsAt found.place (found_bodies found) bytes
+found_ends place bodies hand told bytes size found is has stands finds =
+    let some = stands_ends place bodies hand bytes stands in
+    found_some told bytes size found is has some.0 some.1 some.2 finds
 
 -- nothing is missing up to the gate
 pub none_missing : (place : ℕ) (bodies : List (List ℕ)) (told : Option (List ℕ)) (bytes : List ℕ) (size : ℕ) → EndsAt place bodies bytes → told ≡ Some bytes → HasLength told size → place + 1 - size ≡ 0

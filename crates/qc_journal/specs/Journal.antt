@@ -58,6 +58,12 @@ pub record Keeps {D : Type 0} {g : Ghosts D} (journal : Journal D g) (bodies : L
   pub each : (c : List ℕ) → (g.view journal.disk).may_leave c → ImageStands journal.place bodies (in_hand journal) c
   pub whole : IsUp journal → missing_at journal.place journal.state ≡ 0
 
+-- The disk tells its bytes, and whatever a crash may leave of it has these records, or none.
+pub record KeepsOrNone {D : Type 0} {g : Ghosts D} (journal : Journal D g) (bodies : List (List ℕ)) : Type 0 where
+  pub bytes : List ℕ
+  pub told : (g.view journal.disk).content ≡ Some bytes
+  pub each : (c : List ℕ) → (g.view journal.disk).may_leave c → EndsAt journal.place bodies c ⊎ EndsAt 0 [] c
+
 -- It is down, with this body in hand, at the same place.
 pub record TakesInHand {D : Type 0} {g : Ghosts D} (old new : Journal D g) (body : List ℕ) : Type 0 where
   pub down : IsDown new

@@ -1,6 +1,6 @@
 //! Runs of calls of a disk.
-ghost use Rattle.std.specs.Prelude.{◌≡◌, ◌≤◌, ◌<◌, ◌+◌, ℕ, List, max, length, option_map, IfOk, IfSome, OnOk, OnErr, IsErrOf, IsTrue, ◌↔◌, slice_index};
-ghost use Rattle.qc_disk.specs.Disk.{HasCause, CountsOnce, written, Torn, ImagesFollow, Within, Only, Steps, Holds, LeavesOnly, FallsAway, ChangesOnce};
+ghost use Rattle.std.specs.Prelude.{◌≡◌, ◌≤◌, ◌<◌, ◌+◌, ℕ, List, max, length, take, option_map, IfOk, IfSome, OnOk, OnErr, IsErrOf, IsTrue, ◌↔◌, slice_index};
+ghost use Rattle.qc_disk.specs.Disk.{HasCause, CountsOnce, written, Torn, Cut, ImagesFollow, Within, Only, Steps, Holds, LeavesOnly, FallsAway, ChangesOnce};
 ghost use Rattle.qc_journal.specs.Device.{Touched};
 
 use qc_disk::{Disk, DiskNo};
@@ -28,6 +28,26 @@ pub(crate) fn write_synced<D: Disk>(disk: &mut D, at: u64, bytes: &[u8]) -> Resu
         (IsErrOf result DiskNo.Failed) }
 {
     disk.write_at(at, bytes)?;
+    disk.sync()
+}
+
+/// Cuts to a length, and syncs.
+pub(crate) fn cut_synced<D: Disk>(disk: &mut D, to: u64) -> Result<(), DiskNo>
+    requires { to ≤ (D.view disk.old).size }
+    ensures cut { OnOk result ((D.view disk.new).content ≡ option_map (take to)
+        (D.view disk.old).content) }
+    ensures durable { OnOk result (Only (D.view disk.new).content (D.view disk.new).may_leave) }
+    ensures size { OnOk result ((D.view disk.new).size ≡ to) }
+    ensures shorter { Steps (Cut to) (D.view disk.old).content (D.view disk.new).content }
+    ensures crash { ImagesFollow (Cut to) (D.view disk.old).may_leave (D.view disk.new).may_leave }
+    ensures any_moment { LeavesOnly D.view disk.old disk.new
+        (Touched (Cut to) (D.view disk.old).may_leave) }
+    ensures cause { HasCause (D.view disk.old).faults (D.view disk.new).faults
+        (IsErrOf result DiskNo.Failed) }
+    ensures counts_once { CountsOnce (D.view disk.old).faults (D.view disk.new).faults
+        (IsErrOf result DiskNo.Failed) }
+{
+    disk.cut(to)?;
     disk.sync()
 }
 

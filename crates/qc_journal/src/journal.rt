@@ -1,13 +1,13 @@
 //! A journal over any disk.
-ghost use Rattle.std.specs.Prelude.{◌≡◌, ◌+◌, ◌≤◌, ◌<◌, ◌^◌, ◌⊎◌, ℕ, List, [], ◌∷◌, ◌++◌, length, IsTrue, ◌↔◌, IfOk, IfErr, OnOk, OnErr, IfSome, IsSome, IsErrOf, IsErrAnd, Err, if◌then◌else◌, option_map};
-ghost use Rattle.qc_disk.specs.Disk.{HasCause, CountsOnce, Steps, LeavesOnly, FallsAway, Grows, written};
+ghost use Rattle.std.specs.Prelude.{◌≡◌, ◌+◌, ◌≤◌, ◌<◌, ◌^◌, ◌⊎◌, ℕ, List, [], ◌∷◌, ◌++◌, length, IsTrue, ◌↔◌, IfOk, IfErr, OnOk, OnErr, IfSome, IsSome, IsErrOf, IsErrAnd, Err, None, if◌then◌else◌, option_map};
+ghost use Rattle.qc_disk.specs.Disk.{HasCause, CountsOnce, Only, Steps, LeavesOnly, FallsAway, Grows, written};
 ghost use Rattle.qc_journal.specs.Image.{HasRecords, HasAt, IsBroken, behind_gate, bodies_of};
 ghost use Rattle.qc_journal.specs.State.{IsUpState, missing_at, hand_of, hand_end, hand_size};
 ghost use Rattle.qc_journal.specs.Device.{IsAlike, LeftOrAlike, made_ready};
 ghost use Rattle.qc_journal.specs.Fault.{IsOfDevice, IsOfReading};
 ghost use Rattle.qc_journal.specs.declared.fault.Fault.TheVariants.{Broken, Full};
 
-use crate::device::{gate_is_open, synced_len, write_synced};
+use crate::device::{cut_synced, gate_is_open, synced_len, write_synced};
 use crate::fault::Fault;
 use crate::image::{Body, block_of};
 use crate::reading::{prepare, read_records};
@@ -41,7 +41,7 @@ pub struct Journal<D: Disk> {
 }
 
 impl<D: Disk> Journal<D> {
-    ghost use Rattle.qc_journal.specs.Journal.{disk_of, place_of, limit_of, in_hand, IsUp, IsDown, IsTooLong, with_hand, behind_hand, Keeps, AppendLeaves, disk_after};
+    ghost use Rattle.qc_journal.specs.Journal.{disk_of, place_of, limit_of, in_hand, IsUp, IsDown, IsTooLong, with_hand, behind_hand, Keeps, KeepsOrNone, AppendLeaves, disk_after};
 
     /// Syncs, and reads the records. A disk of at most one byte is made ready. A refusal hands the disk back.
     pub fn mount(alloc: Global, disk: D, limit: u64) -> Result<(Journal<D>, Vec<Body>), (D, Fault)>
@@ -220,6 +220,8 @@ impl<D: Disk> Journal<D> {
         ensures place { place_of self.new ≡ place_of self.old }
         ensures limit { limit_of self.new ≡ limit_of self.old }
         ensures kept { (bodies : List (List ℕ)) → Keeps self.old bodies → Keeps self.new bodies }
+        ensures kept_or_none { (bodies : List (List ℕ)) → KeepsOrNone self.old bodies
+            → KeepsOrNone self.new bodies }
     {
         if let State::Up { .. } = self.state {
             self.state = State::Down(None);
@@ -241,6 +243,13 @@ impl<D: Disk> Journal<D> {
             → Keeps self.new (bodies_of found.items)) }
         ensures kept { OnErr result ((bodies : List (List ℕ)) → Keeps self.old bodies
             → Keeps self.new bodies) }
+
+        // After a failed reset they are those from before it, or none.
+        ensures reset_tells { IfOk result (λ found. (bodies : List (List ℕ))
+            → KeepsOrNone self.old bodies → Keeps self.new (bodies_of found.items)
+            × ((bodies_of found.items ≡ bodies) ⊎ (bodies_of found.items ≡ []))) }
+        ensures reset_kept { OnErr result ((bodies : List (List ℕ)) → KeepsOrNone self.old bodies
+            → KeepsOrNone self.new bodies) }
         ensures content { (D.view (disk_of self.new)).content
             ≡ (D.view (disk_of self.old)).content }
 
@@ -263,6 +272,90 @@ impl<D: Disk> Journal<D> {
         let missing = (found.place + 1).saturating_sub(found.size);
         self.state = State::Up { missing };
         Ok(found.bodies)
+    }
+
+    // Whether it has no record, so that the gate at the front stands closed.
+    fn is_bare(&self) -> bool
+        requires { IsUp self.now }
+        ensures { IsTrue result ↔ ((self.now.place ≡ 0)
+            × (missing_at self.now.place self.now.state ≡ 0)) }
+    {
+        self.place == 0 && self.missing() == 0
+    }
+
+    // Takes it down, with the gate at the front closed. One that stands closed is not written again: a torn write may
+    // leave it open before what stands behind it.
+    fn shut_front(&mut self) -> Result<(), Fault>
+        requires { IsUp self.old }
+        ensures size { OnOk result (1 ≤ (D.view (disk_of self.new)).size) }
+        ensures down { IsDown self.new }
+        ensures in_hand { in_hand self.new ≡ None }
+        ensures place { place_of self.new ≡ place_of self.old }
+        ensures limit { limit_of self.new ≡ limit_of self.old }
+        ensures fault { IfErr result IsOfDevice }
+        ensures shut { OnOk result ((bodies : List (List ℕ)) → Keeps self.old bodies
+            → KeepsOrNone self.new []) }
+        ensures kept { OnErr result ((bodies : List (List ℕ)) → Keeps self.old bodies
+            → KeepsOrNone self.new bodies) }
+        ensures any_moment { (bodies : List (List ℕ)) → Keeps self.old bodies
+            → LeavesOnly D.view (disk_of self.old) (disk_of self.new)
+            (λ image. HasRecords bodies image ⊎ HasRecords [] image) }
+        ensures stays_empty { (bodies : List (List ℕ)) → Keeps self.old bodies
+            → Grows D.view (disk_of self.old) (disk_of self.new) (HasRecords []) }
+        ensures cause { HasCause (D.view (disk_of self.old)).faults
+            (D.view (disk_of self.new)).faults (IsErrOf result Fault.Disk) }
+        ensures counts_once { CountsOnce (D.view (disk_of self.old)).faults
+            (D.view (disk_of self.new)).faults (IsErrOf result Fault.Disk) }
+    {
+        let is_bare = self.is_bare();
+        self.state = State::Down(None);
+        if is_bare {
+            return Ok(());
+        }
+        write_synced(&mut self.disk, 0, &[0])?;
+        Ok(())
+    }
+
+    /// Drops all records. During it each image has them or none. After an error it is down, and `reread` tells which.
+    pub fn reset(&mut self) -> Result<(), Fault>
+        requires { IsUp self.old }
+
+        // At `Ok` it is up at the front of one byte.
+        ensures up { OnOk result (IsUp self.new) }
+        ensures place { OnOk result (place_of self.new ≡ 0) }
+        ensures size { OnOk result ((D.view (disk_of self.new)).size ≡ 1) }
+        ensures fault { IfErr result IsOfDevice }
+        ensures down { OnErr result (IsDown self.new) }
+        ensures in_hand { OnErr result (in_hand self.new ≡ None) }
+        ensures place_err { OnErr result (place_of self.new ≡ place_of self.old) }
+        ensures limit { limit_of self.new ≡ limit_of self.old }
+
+        // Where the disk tells its bytes, an image is that byte after `Ok`, and after an error has all records or none.
+        ensures emptied { OnOk result ((bodies : List (List ℕ)) → Keeps self.old bodies
+            → Keeps self.new []) }
+        ensures durable { OnOk result (Only (D.view (disk_of self.new)).content
+            (D.view (disk_of self.new)).may_leave) }
+        ensures kept { OnErr result ((bodies : List (List ℕ)) → Keeps self.old bodies
+            → KeepsOrNone self.new bodies) }
+
+        // A crash at any moment of the call leaves the records from before it, or none.
+        ensures any_moment { (bodies : List (List ℕ)) → Keeps self.old bodies
+            → LeavesOnly D.view (disk_of self.old) (disk_of self.new)
+            (λ image. HasRecords bodies image ⊎ HasRecords [] image) }
+
+        // Of two moments of the call, where no image of the earlier has a record, none of the later has.
+        ensures stays_empty { (bodies : List (List ℕ)) → Keeps self.old bodies
+            → Grows D.view (disk_of self.old) (disk_of self.new) (HasRecords []) }
+        ensures cause { HasCause (D.view (disk_of self.old)).faults
+            (D.view (disk_of self.new)).faults (IsErrOf result Fault.Disk) }
+        ensures counts_once { CountsOnce (D.view (disk_of self.old)).faults
+            (D.view (disk_of self.new)).faults (IsErrOf result Fault.Disk) }
+    {
+        self.shut_front()?;
+        cut_synced(&mut self.disk, 1)?;
+        self.place = 0;
+        self.state = State::Up { missing: 0 };
+        Ok(())
     }
 
     /// Whether it is up.
