@@ -1,6 +1,6 @@
 -- What fits a form has the lengths that its writer wants, and what is in the range of its types fits.
 use mathlib.Core.Bool.{true≢false}
-use Rattle.std.proofs.Common.{◌≡◌, ℕ, suc, ◌/◌, ◌%◌, ◌^◌, ◌<◌, ◌≤◌, true, false, List, [], ◌∷◌, length, refl, sym, ap, arith}
+use Rattle.std.proofs.Common.{◌≡◌, ℕ, suc, ◌/◌, ◌%◌, ◌^◌, ◌<◌, ◌≤◌, true, List, [], ◌∷◌, length, refl, sym, ap, arith}
 use Rattle.std.specs.Prelude.{Option, None, Some, nat_le, nat_lt, is_none, slice_index}
 use Rattle.std.specs.List.{All}
 use Rattle.std.proofs.lemmas.Bool.{and_parts, and_from, leb-true, ltb-true, le-leb, lt-ltb}
@@ -17,11 +17,12 @@ use Rattle.qc_event.specs.declared.table.Row.{Row}
 use Rattle.qc_event.specs.declared.table.Table.{Table}
 use Rattle.qc_event.specs.Grants.{Sets}
 use Rattle.qc_event.specs.History.{Name}
+use Rattle.qc_codec.specs.declared.record.BaseRecord.{BaseRecord}
 use Rattle.qc_codec.specs.declared.record.Made.{Made}
 use Rattle.qc_codec.specs.declared.record.LedgerRecord.TheVariants as ledger_record
 use Rattle.qc_codec.specs.Form.{byte, only}
 use Rattle.qc_codec.specs.Fields.{Layout, format_1, half, word, long, name, config, tuple, is_length, is_top, some_number, IsNumbered}
-use Rattle.qc_codec.specs.Bodies.{HasLengths, is_between, is_code, code_of, label, row, table, making, granted, grant, below, top, ledger}
+use Rattle.qc_codec.specs.Bodies.{HasLengths, is_between, is_code, code_of, label, row, table, making, granted, grant, folded, base, below, top, ledger}
 
 pub config_votes : (layout : Layout) (c : Voting) → (config layout).fits c → length c.votes ≡ layout.copies
 unfolding config
@@ -116,6 +117,12 @@ granted_spelling least layout = refl
 pub grant_spelled : (layout : Layout) (g : Grant) → (grant layout).spell g ≡ 2 ∷ (granted 1 layout).spell g
 unfolding name granted grant
 grant_spelled layout g = refl
+
+-- BASE RECORDS
+
+pub base_votes : (layout : Layout) (records : ℕ) (b : BaseRecord) → (base layout records).fits b → All (λ (t : Tuple). length t.config.votes ≡ layout.copies) b.tuples
+unfolding base folded
+base_votes layout records b fits k d lt = tuple_votes layout _ (fits.0.1.1.1 k d lt)
 
 -- THE LEDGER'S RECORDS
 

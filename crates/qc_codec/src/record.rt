@@ -1,6 +1,7 @@
 //! Records of journals that are no grants.
 ghost use Rattle.std.specs.Prelude.{◌≡◌};
 
+use qc_config::Tuple;
 use qc_event::{Name, Table};
 use std::marker::Model;
 
@@ -48,4 +49,44 @@ pub enum LedgerRecord {
     Made(Made),
     Epoch(u32),
     Top { top: Name, aborted: Names },
+}
+
+/// Tuples in order.
+#[derive(Debug, Drop)]
+pub struct Tuples {
+    tuples: Vec<Tuple>,
+}
+
+impl Model for Tuples {
+    ghost use Rattle.std.specs.Prelude.{List};
+    ghost use Rattle.qc_config.specs.declared.tuple.Tuple.{Tuple};
+
+    ghost Value = { List Tuple };
+
+    ghost view = { λ t. t.tuples.items };
+}
+
+impl Tuples {
+    /// The tuples of a vector. It takes no memory.
+    pub fn new(tuples: Vec<Tuple>) -> Self
+        ensures { result ≡ tuples.items }
+    {
+        Tuples { tuples }
+    }
+
+    /// The tuples in order.
+    pub fn as_slice(&self) -> &[Tuple]
+        ensures { result.now ≡ self.now }
+    {
+        self.tuples.as_slice()
+    }
+}
+
+/// What stands behind the made record of a journal that another was folded into: the number of the fold, the epoch of
+/// the run that folded, and what the copy then held of each record. A ledger's has no tuples.
+#[derive(Debug, Drop)]
+pub struct BaseRecord {
+    pub number: u64,
+    pub epoch: u32,
+    pub tuples: Tuples,
 }
