@@ -8,6 +8,7 @@ mod desk;
 mod ends;
 mod finish;
 mod found;
+mod held;
 mod locked;
 mod looks;
 mod lookups;
@@ -21,6 +22,7 @@ mod view;
 
 pub use consult::Consulted;
 pub use desk::{Blank, Desk};
+pub use held::change_tuple;
 pub use pass::Pass;
 pub use refusal::DeskNo;
 pub use store::Store;
