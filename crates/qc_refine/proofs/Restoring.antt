@@ -6,3 +6,5 @@ pub mod RestoredSound
 pub mod ImageReadings
 pub mod RestoredImages
 pub mod ListedNames
+pub mod FoldedPairs
+pub mod PairImages

@@ -8,3 +8,5 @@ pub mod Restored
 pub mod Listed
 pub mod Standing
 pub mod Images
+pub mod Folded
+pub mod Pairs

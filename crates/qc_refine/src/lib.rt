@@ -2,7 +2,9 @@
 #![tactic(auto)]
 
 mod complete;
+mod folded;
 mod last_values;
+mod pairs;
 mod restored;
 
 ghost use Rattle.std.specs.Prelude.{ℕ, ◌≡◌, ◌∷◌, ◌++◌, All, List, [], length, None};
@@ -20,7 +22,9 @@ ghost use Rattle.qc_refine.specs.InTurn.{AnswerValues, Done, given_to, IsDone, K
 ghost use Rattle.qc_refine.specs.Turns.{dones_order};
 
 pub use complete::committed_managers_are_complete;
+pub use folded::folded_pairs_restore_alike;
 pub use last_values::last_values_are_serial;
+pub use pairs::restored_pairs_are_serial;
 pub use restored::restored_values_are_serial;
 
 /// Where the copies carry a value of a record and a complete manager finds what is there, a read answers the

@@ -144,9 +144,12 @@ module _ (setting : Setting) (past : Past) (x : ℕ) (legal : Legal setting past
           itself : name.is_ancestor n n ≡ true
           itself = ap (name.is_ancestor n) (sym (append-nil n)) ∙ is_ancestor-append n []
 
-  -- who has no listed name above is committed for good
+  -- who has no listed name above lives and is committed for good
+  pub is_good_below : (r : Name) → is_some (start past (x ∷ r)) ≡ true → NoneAbove (listed past (x ∷ [])) (x ∷ r) → IsGood past (x ∷ r)
+  is_good_below = by_last IsGoodBelow top_good next_good
+
   pub good_below : (r : Name) → is_some (start past (x ∷ r)) ≡ true → NoneAbove (listed past (x ∷ [])) (x ∷ r) → is_for_good past (x ∷ r) ≡ true
-  good_below r began none = (by_last IsGoodBelow top_good next_good r began none).good
+  good_below r began none = (is_good_below r began none).good
 
 -- KEPT IS FOR GOOD
 
@@ -167,7 +170,7 @@ module _ (setting : Setting) (past : Past) (x : ℕ) (r : Name) (legal : Legal s
       by_first true is kept rest = keeps_good l (All-head (IsLogged past) l ls all) is
       by_first false is kept rest = rest kept
 
-  none_listed : (names : List Name) → All (WasAborted past) names → is_for_good past (x ∷ r) ≡ true → list_any (λ n. name.is_ancestor n (x ∷ r)) names ≡ false
+  pub none_listed : (names : List Name) → All (WasAborted past) names → is_for_good past (x ∷ r) ≡ true → list_any (λ n. name.is_ancestor n (x ∷ r)) names ≡ false
   none_listed [] all good = refl
   none_listed (n ∷ names) all good = ap₂ (λ a b. a || b)
       (false_from_ne_true (name.is_ancestor n (x ∷ r)) (λ above. none_aborted_above setting past n (x ∷ r) legal (All-head (WasAborted past) n names all) above good))

@@ -29,12 +29,12 @@ read_again {A} f exact (x ∷ xs) fit =
     ap₂ (λ (o : Option A) (rest : List A). cons_option o rest) (all_again f exact x (All-head f.fits x xs fit)) (read_again f exact xs (All-tail f.fits x xs fit))
 
 -- tops that were written are told
-tops_told : (ls : List Logged) → filter_map logged_in (map record_of_top ls) ≡ ls
+pub tops_told : (ls : List Logged) → filter_map logged_in (map record_of_top ls) ≡ ls
 tops_told [] = refl
 tops_told (l ∷ ls) = ap (λ (rest : List Logged). l ∷ rest) (tops_told ls)
 
 -- a made record tells no grant
-made_told : (table : Table) (made : Made) (bodies : List (List ℕ)) → readings (grant_form table) (body.made.spell made ∷ bodies) ≡ readings (grant_form table) bodies
+pub made_told : (table : Table) (made : Made) (bodies : List (List ℕ)) → readings (grant_form table) (body.made.spell made ∷ bodies) ≡ readings (grant_form table) bodies
 unfolding body.made body.grant
 made_told table made bodies = refl
 

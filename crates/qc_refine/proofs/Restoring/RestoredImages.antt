@@ -86,7 +86,7 @@ module _ (table : Table) (images : List (List ℕ)) where
         unfolding beside
         images_sound =
             subst (λ s. IsSound s (final_values values (committed_too past standing.beside.more))) same_setting
-            (restored_sound (base_of table) epoch (setting_of table base) values standing.before (kept_in table r.bodies) past legal sound beside)
+            (restored_sound (base_of table) epoch (setting_of table base) standing.before (kept_in table r.bodies) past legal beside values sound)
 
         pub carry_final : CarryFinal table values (committed_too past standing.beside.more) tuples
         carry_final = record {

@@ -90,14 +90,14 @@ untold_too past more g untold = record {
 
 -- WHAT IS RESTORED
 
-module _ (first : List (List Tuple)) (epoch : ℕ) (setting : Setting) (values : List ℕ) (before now : Kept) (past : Past) (legal : Legal setting past) (sound : IsSound setting values) (s : StandBeside first epoch setting before now past) where
+module _ (first : List (List Tuple)) (epoch : ℕ) (setting : Setting) (before now : Kept) (past : Past) (legal : Legal setting past) (s : StandBeside first epoch setting before now past) where
   abbrev was : ℕ → ℕ → Tuple
   was copy rec = restored_tuple before.tops rec (start_tuple first copy rec) (granted_at before copy)
 
-  abbrev is : ℕ → ℕ → Tuple
+  abbrev pub is : ℕ → ℕ → Tuple
   is copy rec = restored_tuple now.tops rec (start_tuple first copy rec) (granted_at now copy)
 
-  abbrev left : ℕ → ℕ → Tuple
+  abbrev pub left : ℕ → ℕ → Tuple
   left = left_at setting.base (served_order (committed_too past s.more) [])
 
   copies : length setting.base ≡ length first
@@ -106,7 +106,7 @@ module _ (first : List (List Tuple)) (epoch : ℕ) (setting : Setting) (values :
   started : (copy rec : ℕ) → copy < length first → rec < length setting.firsts → was copy rec ≡ start_tuple setting.base copy rec
   started copy rec here there = sym (ap (λ base. start_tuple base copy rec) s.starts ∙ grid_at (length first) (length setting.firsts) was copy rec here there)
 
-  each : (copy rec : ℕ) → copy < length first → rec < length setting.firsts → is copy rec ≡ left copy rec
+  pub each : (copy rec : ℕ) → copy < length first → rec < length setting.firsts → is copy rec ≡ left copy rec
   each copy rec here there =
       ap₂ (λ tops given. restored_tuple tops rec (start_tuple first copy rec) given)
       (s.tops ∙ ap (λ ls. before.tops ++ ls) (sym (logged_too past s.more s.next)))
@@ -121,7 +121,7 @@ module _ (first : List (List Tuple)) (epoch : ℕ) (setting : Setting) (values :
       grids_agree (length first) (length setting.firsts) left is each
       ∙ ap (λ n. grid n (length setting.firsts) left) (sym copies)
 
-  pub restored_sound : IsSound (restored_setting first setting now) (final_values values (committed_too past s.more))
-  restored_sound =
+  pub restored_sound : (values : List ℕ) → IsSound setting values → IsSound (restored_setting first setting now) (final_values values (committed_too past s.more))
+  restored_sound values sound =
       subst (λ (base : List (List Tuple)). IsSound (record { firsts = setting.firsts; base = base }) (final_values values (committed_too past s.more))) (sym same_base)
       (left_copies setting values (committed_too past s.more) (legal_too setting past s.more legal s.next) sound)

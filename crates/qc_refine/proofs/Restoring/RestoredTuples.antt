@@ -40,7 +40,7 @@ use Rattle.qc_refine.proofs.Restoring.LoggedTops.{IsLogged, logged_are}
 -- LISTS
 
 -- tests that agree on a list choose the same of it
-filter_same : (p q : Grant → Bool) (gs : List Grant) → All (λ g. p g ≡ q g) gs → filter p gs ≡ filter q gs
+pub filter_same : (p q : Grant → Bool) (gs : List Grant) → All (λ g. p g ≡ q g) gs → filter p gs ≡ filter q gs
 filter_same p q [] same = refl
 filter_same p q (g ∷ gs) same =
     ap₂ (λ (b : Bool) (rest : List Grant). if b then g ∷ rest else rest) (All-head (λ h. p h ≡ q h) g gs same)
@@ -54,10 +54,10 @@ filter_none p (g ∷ gs) none =
 
 -- ACCESSES
 
-abbrev HasAsked : Past → Grant → Type 0
+abbrev pub HasAsked : Past → Grant → Type 0
 HasAsked past g = is_some (asked past g.access) ≡ true
 
-grants_asked : (setting : Setting) (past : Past) (copy : ℕ) → Legal setting past → All (HasAsked past) (grants past copy)
+pub grants_asked : (setting : Setting) (past : Past) (copy : ℕ) → Legal setting past → All (HasAsked past) (grants past copy)
 grants_asked setting [] copy legal = All-nil (HasAsked [])
 grants_asked setting (e ∷ past) copy legal =
     All-append (HasAsked (e ∷ past)) (grants past copy) (option_to_list (grant_at copy e.event))
@@ -82,7 +82,7 @@ pub record IsBelow (past : Past) (a : Name) : Type 0 where
   pub started : is_some (start past (number ∷ rest)) ≡ true
   pub top_started : is_some (start past (number ∷ [])) ≡ true
 
-below_top : (setting : Setting) (past : Past) (a : Name) → Legal setting past → is_some (asked past a) ≡ true → IsBelow past a
+pub below_top : (setting : Setting) (past : Past) (a : Name) → Legal setting past → is_some (asked past a) ≡ true → IsBelow past a
 below_top setting past a legal asks = by_shape a (started_some _ (start past a) (asked_access setting past a legal asks).started)
   where
     by_shape : (a : Name) → is_some (start past a) ≡ true → IsBelow past a

@@ -7,7 +7,7 @@ pub returns-clause-legal : goal.returns-clause-legal
 returns-clause-legal c = legal_too
 
 pub returns-clause-records : goal.returns-clause-records
-returns-clause-records c = restored_sound
+returns-clause-records c = λ first epoch setting values before now past legal sound s. restored_sound first epoch setting before now past legal s values sound
 
 pub returns-clause-some : goal.returns-clause-some
 returns-clause-some c = restore_some
