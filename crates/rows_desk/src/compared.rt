@@ -1,4 +1,4 @@
-//! What a desk answers of a copy's grants, given in order, and with two of them exchanged.
+//! What a desk answers of a copy's grants, given in order, and with two of them exchanged; and what the copy holds.
 ghost use Rattle.std.specs.Prelude.{◌≡◌, true, IfOk, IfSome};
 ghost use Rattle.qc_event.specs.History.{grants};
 ghost use Rattle.qc_moss.specs.Follows.{TableFollows};
@@ -7,7 +7,7 @@ ghost use Rattle.qc_desk.specs.Rules.{IsClient};
 ghost use Rattle.rows_desk.specs.OneCopy as words;
 
 use crate::scene::{grant_of, one_request, start_scene};
-use qc_config::Config;
+use qc_config::{Config, Tuple};
 use qc_desk::{Blank, Consulted, Desk, DeskNo, Pass, Store};
 use qc_event::{Grant, Short};
 use qc_moss::{Locks, Verdict};
@@ -15,11 +15,15 @@ use std::alloc::Global;
 use std::marker::Brand;
 use std::sync::Wait;
 
-/// What the desk answered of the copy's three grants: given in order, and with the last two exchanged.
+/// What the desk answered of the copy's three grants: given in order, and with the last two exchanged; what the first was
+/// granted there, and at another copy; and what the copy holds.
 #[derive(Drop)]
 pub struct Compared {
     pub in_order: Option<(usize, Grant)>,
     pub exchanged: Option<(usize, Grant)>,
+    pub here: Option<Tuple>,
+    pub elsewhere: Option<Tuple>,
+    pub held: Vec<Tuple>,
 }
 
 // The copy grants a request of the client, and its locks follow. None where the request is not free.
@@ -65,21 +69,30 @@ fn grant_next<N: Store, R: Wait>(
 
 fn compare<N: Store, R: Wait>(
     rt: &R,
+    alloc: Global,
     desk: &Desk<N>,
     pass: &mut Pass<N>,
+    copy: &mut Pass<N>,
     one: &Grant,
     two: &Grant,
     three: &Grant,
-) -> Compared {
-    Compared {
+) -> Result<Compared, DeskNo> {
+    let Ok(held) = desk.held(rt, alloc, pass, 0) else {
+        return Err(DeskNo::Short(Short::Memory));
+    };
+    Ok(Compared {
         in_order: desk.matches(rt, pass, 0, &[*one, *two, *three]),
         exchanged: desk.matches(rt, pass, 0, &[*one, *three, *two]),
-    }
+        here: desk.granted(rt, copy, pass, 0, &one.access),
+        elsewhere: desk.granted(rt, copy, pass, 1, &one.access),
+        held,
+    })
 }
 
 // The copy grants three requests in turn, and the desk compares. None where one of them is not free.
 fn grant_three<N: Store, R: Wait>(
     rt: &R,
+    alloc: Global,
     desk: &Desk<N>,
     pass: &mut Pass<N>,
     copy: &mut Pass<N>,
@@ -101,11 +114,13 @@ fn grant_three<N: Store, R: Wait>(
     let Some(three) = grant_next(rt, desk, pass, copy, locks)? else {
         return Ok(None);
     };
-    Ok(Some(compare(rt, desk, pass, &one, &two, &three)))
+    let compared = compare(rt, alloc, desk, pass, copy, &one, &two, &three)?;
+    Ok(Some(compared))
 }
 
 fn compared_at<N: Store, R: Wait>(
     rt: &R,
+    alloc: Global,
     blank: Blank,
     mut locks: Locks,
 ) -> Result<Option<Compared>, DeskNo>
@@ -117,7 +132,7 @@ fn compared_at<N: Store, R: Wait>(
     let (desk, mut first) = blank.name::<N>();
     let _ledger = desk.split(rt, &mut first);
     let mut copy = desk.split(rt, &mut first);
-    grant_three(rt, &desk, &mut first, &mut copy, &mut locks)
+    grant_three(rt, alloc, &desk, &mut first, &mut copy, &mut locks)
 }
 
 /// What a desk of its own answers; none where the copy does not find each request free. An error is the desk's, or
@@ -132,5 +147,5 @@ pub fn run_compared<R: Wait>(
     let Ok((blank, locks)) = start_scene(alloc, config) else {
         return Err(DeskNo::Short(Short::Memory));
     };
-    compared_at::<Brand, R>(rt, blank, locks)
+    compared_at::<Brand, R>(rt, alloc, blank, locks)
 }

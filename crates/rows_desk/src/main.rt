@@ -4,7 +4,7 @@
 //! desk tells is printed. `refusals`: a client is refused to make a top ready, and to abort a child and a top; then why
 //! is printed. `overtaken`: a client's top is aborted by another between a copy's consultation and its grant; then what
 //! the client learns is printed. `compared`: a copy grants three requests; then what the desk answers of these grants in
-//! order, and with two exchanged, is printed. Other lines are printed as they are.
+//! order, and with two exchanged, is printed, and what the copy holds. Other lines are printed as they are.
 #![tactic(auto)]
 
 ghost use Rattle.std.specs.Prelude.{◌≡◌, IfSome};
@@ -22,7 +22,7 @@ use compared::{Compared, run_compared};
 use looks::{Told, run_looks};
 use overtaken::{Overtaken, run_overtaken};
 use qc_check::check_by_scans;
-use qc_config::Config;
+use qc_config::{Config, Tuple};
 use qc_desk::DeskNo;
 use qc_event::{Base, Entry, Event, Grant, Kind};
 use refusals::{Refusals, run_refusals};
@@ -135,6 +135,17 @@ fn tell_difference(
     }
 }
 
+// A tuple, where there is one.
+fn tell_tuple(rt: HostRuntime, what: &str, tuple: Option<&Tuple>) -> io::Result<()> {
+    match tuple {
+        Some(tuple) => {
+            let Tuple { version, value, .. } = *tuple;
+            println!(rt; "compared: {what}: value {value} version {version}")
+        }
+        None => println!(rt; "compared: {what}: none"),
+    }
+}
+
 fn play_overtaken<R: Wait>(
     rt: HostRuntime,
     wait: &R,
@@ -164,11 +175,17 @@ fn play_compared<R: Wait>(
                 Compared {
                     in_order,
                     exchanged,
+                    here,
+                    elsewhere,
+                    held,
                 },
             ),
         ) => {
             tell_difference(rt, "in order", &in_order)?;
-            tell_difference(rt, "with two exchanged", &exchanged)
+            tell_difference(rt, "with two exchanged", &exchanged)?;
+            tell_tuple(rt, "granted first", here.as_ref())?;
+            tell_tuple(rt, "granted first at copy 1", elsewhere.as_ref())?;
+            tell_tuple(rt, "held of x", held.as_slice().first())
         }
         Ok(None) => println!(rt; "compared: a request was not free"),
         Err(why) => println!(rt; "compared: {why}"),

@@ -62,10 +62,11 @@ fn is_refused_once(alloc: Global, entries: &[Entry]) -> Result<bool, AllocError>
             Event::Unable { name, .. } => Some(*name),
             _ => None,
         };
-        if let Some(access) = access {
-            if !refused.insert(access)? {
-                return Ok(false);
-            }
+        let Some(access) = access else {
+            continue;
+        };
+        if !refused.insert(access)? {
+            return Ok(false);
         }
     }
     Ok(true)
