@@ -266,8 +266,9 @@ impl<D: Disk, N: Store> Ledger<D, N> {
         requires proper { body.ledger.fits (Top top.now aborted.now) }
 
         // At an error what was entered is at most the commit of the top in hand, and then that this top was not logged. Full
-        // comes where the record would pass the limit at its place, and nowhere else; the ledger is up then, with nothing in
-        // hand. After a fault of the disk it is down.
+        // comes only where the record would pass the limit at its place; the ledger is up then, with nothing in hand. One that
+        // was so before answers nothing else, but for want, of such a top that has not ended. After a fault of the disk it is
+        // down.
         ensures logged { OnOk result
             (HasLogged top.now (ledger_state self.old) (ledger_state self.new)) }
         ensures refused { IfErr result (λ refusal. RefusalEnters refusal

@@ -8,7 +8,7 @@ use Rattle.qc_event.specs.Tables.{setting_of}
 use Rattle.qc_event.specs.declared.table.Table.{Table}
 use Rattle.qc_system.specs.Grown.{GrownFrom}
 use Rattle.qc_interp.proofs.Listing.Places.{some_same}
-use Rattle.qc_opening.specs.Stored.{disks_of, past_of, AreOfRun, CopiesHadCause, HasGrown, HasKept, HaveGrown}
+use Rattle.qc_opening.specs.Stored.{disks_of, past_of, AreOfRun, HasGrown, HasKept, HaveGrown, UnablesHadCause}
 use Rattle.qc_opening.specs.declared.stored.Stored.{Stored}
 
 module _ {D : Type 0} (view : D → DiskView) (table : Table) (most : ℕ) (told : ℕ → Option (List ℕ)) (stored : Stored D) (kept : HasKept view table most told stored) where
@@ -40,11 +40,12 @@ module _ {D : Type 0} (view : D → DiskView) (table : Table) (most : ℕ) (told
   pub have_grown : HaveGrown view table told stored.epoch stored.ended.start (disks_of stored) (past_of stored)
   have_grown = record { records = kept.records; mounted = kept.mounted; grown = each_grown }
 
-  -- why copies were unable to serve
-  pub had_cause : CopiesHadCause table most told stored.epoch stored.ended.start (past_of stored)
+  -- why the ledger and the copies were unable
+  pub had_cause : UnablesHadCause table most told stored.epoch stored.ended.start (past_of stored)
   had_cause = record {
     records = kept.records;
     mounted = kept.mounted;
+    tops = λ tells. kept.kept.ledger.kept.full tells;
     full = λ copy there tells. ∥∥₁_map (kept.kept.copies copy there).kept.full (λ full. full tells);
     plain = λ copy there tells. (kept.kept.copies copy there).kept.plain tells;
   }

@@ -10,10 +10,8 @@ use Rattle.qc_disk.specs.Disk.{DiskView}
 use Rattle.qc_disk.specs.Shop.{Tells}
 use Rattle.qc_event.specs.declared.table.Table.{Table}
 use Rattle.qc_event.specs.History.{limit}
-use Rattle.qc_event.specs.Listed.{listed}
 use Rattle.qc_event.specs.Seats.{ledger_seat}
 use Rattle.qc_event.specs.Tables.{base_of, setting_of}
-use Rattle.qc_interp.proofs.Listing.Places.{some_same}
 use Rattle.qc_opening.specs.Disks.{AreCounted, AreOffered}
 use Rattle.qc_opening.specs.Images.{Offers}
 use Rattle.qc_opening.specs.Numbered.{EachFrom, PairsFrom}
@@ -27,10 +25,10 @@ use Rattle.qc_opening.proofs.KeptDisks.KeptImages.{images_kept}
 use Rattle.qc_opening.proofs.KeptDisks.Restarts.{first_start, restores}
 use Rattle.qc_opening.proofs.KeptDisks.Stands.{stand}
 use Rattle.qc_system.specs.Closing.{AllKeep, CopyKeeps, DiskKeeps, LedgerKeeps}
-use Rattle.qc_system.specs.Kept.{HadNoRoom, Pays, downs}
+use Rattle.qc_system.specs.Kept.{Pays, downs}
 use Rattle.qc_system.specs.Parts.{Findings}
 use Rattle.qc_opening.specs.Parts.{counted_by, told_by}
-use Rattle.qc_opening.specs.Stored.{disks_of, past_of, returned, AllTell, AreImages, HasKept, HasRun, HavePaid, LedgerWasFull}
+use Rattle.qc_opening.specs.Stored.{disks_of, past_of, returned, AllTell, AreImages, HasKept, HasRun, HavePaid}
 use Rattle.qc_opening.specs.declared.stored.Stored.{Stored}
 use Rattle.qc_opening.proofs.Epochs.{of_epoch}
 use Rattle.qc_opening.proofs.Unboxed.{left_length}
@@ -188,14 +186,6 @@ module _ {D : Type 0} (view : D → DiskView) (plan : ScriptPlan) (most : ℕ) (
     where
       bounded : length (past_of stored) ≤ limit
       bounded = omega (arith, run.bounded, length-reverse stored.ended.trail)
-
-  -- WANT OF ROOM
-
-  pub was_full : is_some (offers 0) ≡ true → LedgerWasFull view most stored.ended.disks.items (past_of stored)
-  was_full some disk is =
-      let l = run.kept.kept.ledger in
-      let full = l.kept.full (some_too (offers 0) (told 0) (tells 0 (omega arith)) some) in
-      subst (λ d. HadNoRoom (listed (past_of stored)) (view d).size most (entries_of ledger_seat (past_of stored))) (some_same l.disk disk (sym l.there ∙ is)) full
 
 -- what disks have counted since they were given, they have since the shop told of them
 pub paid : {D : Type 0} (view : D → DiskView) (plan : ScriptPlan) (most : ℕ) (told : ℕ → Option (List ℕ)) (counts : ℕ → ℕ) (given : List D) (stored : Stored D) → AreCounted view counts 0 given → length given ≡ plan.table.copies + 1

@@ -47,13 +47,15 @@ abbrev pub AreOfRun : Setting → ℕ → Past → List (List ℕ) → Type 0
 AreOfRun setting zero past = AreTopsBy (listed past) past
 AreOfRun setting (suc copy) past = AreGrantsBy setting copy past
 
--- A store was mounted over disks that told this, for an epoch, with journals up to a limit, and its copies started so. Of each
--- request that a copy whose disk told its bytes was unable to serve for want of room: at some time it might have made a grant of
--- it, whose record, behind those of the mounting and one for each of its grants then, would have passed the limit. No such copy
--- was strange.
-pub record CopiesHadCause (table : Table) (most : ℕ) (told : ℕ → Option (List ℕ)) (epoch : ℕ) (start : List (List Tuple)) (past : Past) : Type 0 where
+-- A store was mounted over disks that told this, for an epoch, with journals up to a limit, and its copies started so. Where the
+-- ledger's disk told its bytes, the record of each top that it was unable to log for want of room would have passed the limit,
+-- behind those of the mounting and one for each top committed until then. Of each request that a copy whose disk told its bytes
+-- was unable to serve for want of room: at some time it might have made a grant of it, whose record, behind those of the mounting
+-- and one for each of its grants then, would have passed the limit. No such copy was strange.
+pub record UnablesHadCause (table : Table) (most : ℕ) (told : ℕ → Option (List ℕ)) (epoch : ℕ) (start : List (List Tuple)) (past : Past) : Type 0 where
   pub records : ℕ → List (List ℕ)
   pub mounted : IsMounted table told records epoch start
+  pub tops : is_some (told 0) ≡ true → HadNoRoom (listed past) (records 0) most (entries_of ledger_seat past)
   pub full : (copy : ℕ) → copy < length start → is_some (told (copy + 1)) ≡ true
       → ∥ CopyHadNoRoom (setting_of table start) copy (records (copy + 1)) most past (entries_of (copy_seat copy) past) ∥₁
   pub plain : (copy : ℕ) → copy < length start → is_some (told (copy + 1)) ≡ true → NoneStrange (entries_of (copy_seat copy) past)
@@ -67,11 +69,6 @@ module _ {D : Type 0} (view : D → DiskView) where
   -- of it, up to the end of the count's range. The seat of disk `n` is `n + 1`.
   abbrev pub HavePaid : (ℕ → ℕ) → List D → Past → Type 0
   HavePaid counts disks past = (number : ℕ) (disk : D) → slice_get disks number ≡ Some disk → Pays (counts number) (downs (entries_of (number + 1) past)) (view disk).faults
-
-  -- Of each top that the ledger was unable to log for want of room: its record, behind what the ledger's disk has, would pass a
-  -- limit. The ledger's disk is the first.
-  abbrev pub LedgerWasFull : ℕ → List D → Past → Type 0
-  LedgerWasFull most disks past = (disk : D) → slice_get disks 0 ≡ Some disk → HadNoRoom (listed past) (view disk).size most (entries_of ledger_seat past)
 
   -- A disk as it was when its mounting had ended: where it had told its bytes it told them still, and a crash left these records of it.
   pub record WasMounted (disk : D) (records : List (List ℕ)) (told : Option (List ℕ)) : Type 0 where

@@ -1,5 +1,5 @@
 //! From a shop to what the sessions left.
-ghost use Rattle.std.specs.Prelude.{◌++◌, ℕ, ◌≡◌, ◌+◌, ◌<◌, ◌≤◌, ◌^◌, ◌⊎◌, List, length, IfOk, IfErr, IsSome, OnOk, IsErrOf};
+ghost use Rattle.std.specs.Prelude.{◌++◌, ℕ, ◌≡◌, ◌+◌, ◌<◌, ◌≤◌, ◌^◌, ◌⊎◌, List, length, IfOk, IfErr, OnOk, IsErrOf};
 ghost use Rattle.qc_codec.specs.Bodies as body;
 ghost use Rattle.qc_disk.specs.Shop.{TellsAlike, first_disks};
 ghost use Rattle.qc_event.specs.declared.short.Short.TheVariants.{Room};
@@ -10,7 +10,7 @@ ghost use Rattle.qc_interp.specs.FollowsScript.{FollowsScript, BeginsScript};
 ghost use Rattle.qc_opening.specs.Images.{AreSound, Offers};
 ghost use Rattle.qc_opening.specs.Obtained.{IsNotGiven};
 ghost use Rattle.qc_opening.specs.Refusing.{ComeBack, IsFaultOf, IsNotMounted};
-ghost use Rattle.qc_opening.specs.Stored.{disks_of, past_of, returned, AllTell, AreImages, CopiesHadCause, HasKept, HaveGrown, HavePaid, LedgerWasFull};
+ghost use Rattle.qc_opening.specs.Stored.{disks_of, past_of, returned, AllTell, AreImages, HasKept, HaveGrown, HavePaid, UnablesHadCause};
 ghost use Rattle.qc_refine.specs.Images.{IsStandingWithin, Restores};
 ghost use Rattle.qc_script.specs.Reading.{IsProper};
 ghost use Rattle.qc_script.specs.Steps.{plan_of_script};
@@ -73,10 +73,9 @@ where
     // those of all, whatever a crash leaves of them stands beside the history. At each moment since a disk was mounted a
     // crash left the records of then, and behind them those of the run up to some time; and no record was lost again.
     // Before, it left what it left of the disk as it was then. For each failure of a disk that the history tells, the disk
-    // has counted a fault since the shop gave it. Where the ledger's disk told its bytes, each top that the ledger was
-    // unable to log for want of room would with its record have passed the limit behind what that disk has. So would the
-    // record of each grant that a copy had no room for behind what its disk had then, where that told its bytes; and such a
-    // copy is never strange.
+    // has counted a fault since the shop gave it. Where a disk told its bytes, each top that the ledger had no room for, and
+    // each grant that a copy had none for, would with its record have passed the limit behind what the disk had then; and
+    // such a copy is never strange.
     ensures kept { IfOk result (HasKept H.D.view script.now.table limit
         ((H.view shop.old).offers place.now)) }
     ensures stands { AllTell script.now.table.copies ((H.view shop.old).offers place.now)
@@ -89,9 +88,7 @@ where
         (past_of stored)) }
     ensures paid { IfOk result (λ stored. HavePaid H.D.view ((H.view shop.old).counts place.now)
         (disks_of stored) (past_of stored)) }
-    ensures full { IsSome ((H.view shop.old).offers place.now 0)
-        → IfOk result (λ stored. LedgerWasFull H.D.view limit (disks_of stored) (past_of stored)) }
-    ensures unable { IfOk result (λ stored. CopiesHadCause script.now.table limit
+    ensures unable { IfOk result (λ stored. UnablesHadCause script.now.table limit
         ((H.view shop.old).offers place.now) stored.epoch stored.ended.start (past_of stored)) }
 
     // Where the shop tells the bytes of all disks, none of them has a fault, or the answer is the first.

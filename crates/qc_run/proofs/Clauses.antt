@@ -12,14 +12,14 @@ use Rattle.qc_report.specs.Report.{Text}
 use Rattle.qc_script.specs.Plan.{ScriptPlan}
 use Rattle.qc_script.specs.declared.bad_script.BadScript.{BadScript}
 use Rattle.qc_run.specs.Left.{Wrote, IsPerformed, TellsDoubt, HasAudited, HasRun, IsUnmounted, WasUnmounted, CameBack, IsAnswer, HadNoScript, IsAnswerToWords, IsEarly}
-use Rattle.qc_run.specs.Run.{journal_limit, form_of, text_by, AllEnded, AllOffered, BeganNothing, HadNone, HadNoSession, HadScript, HadSession, IsDiskFault, IsInDoubt, IsNotMounted, IsReadFault, IsReported, IsScriptFault, IsTold, NoneBegun, OfRun, OfScript, RanToEnd, RunsScript, TellsFault, UnlessAudit}
+use Rattle.qc_run.specs.Run.{journal_limit, form_of, text_by, AllEnded, AllOffered, BeganNothing, HadNone, HadNoSession, HadScript, HadSession, IsDiskFault, IsInDoubt, IsNotMounted, IsOfAudit, IsReadFault, IsReported, IsScriptFault, IsTold, NoneBegun, OfRun, OfScript, RanToEnd, RunsScript, TellsFault, UnlessAudit}
 use Rattle.qc_run.specs.Audit.{IsAudited, MayAudit}
 use Rattle.qc_run.specs.Words.{place_of, AsAsked, Asked, AtPlace, IsAudit, IsCommand, IsNoCommand}
 use Rattle.qc_run.specs.declared.ran.Ran.{Ran}
 use Rattle.qc_run.specs.declared.status.Status.{Status}
 use Rattle.qc_run.specs.declared.status.Status.TheVariants as status
 use Rattle.qc_run.proofs.OneCommand.{one_command}
-use Rattle.qc_run.proofs.Taken.{IsOfAudit, proper_one}
+use Rattle.qc_run.proofs.Taken.{proper_one}
 use Rattle.qc_run.proofs.Doubts.{all_ended}
 
 -- WORDS
@@ -359,10 +359,10 @@ module _ {D : Type 0} (view : D → DiskView) (words : List (List ℕ)) (source_
   unmounted_unaudited s asked disks answer un of = absurd of
 
   -- a status that audits alone answer is answered to no other words
-  pub not_of_audit : Answers → (IsAudit words → ⊥) → IsOfAudit ran.status → ⊥
-  not_of_audit (inl audit) other of = other audit.0
-  not_of_audit (inr (inl refused)) other of = refused_unaudited words source_before source_now ran.status refused.1 of
-  not_of_audit (inr (inr run)) other of = by_came run.1.1.came
+  pub of_audit : Answers → IsOfAudit ran.status → IsAudit words
+  of_audit (inl audit) of = audit.0
+  of_audit (inr (inl refused)) of = absurd (refused_unaudited words source_before source_now ran.status refused.1 of)
+  of_audit (inr (inr run)) of = absurd (by_came run.1.1.came)
     where
       by_came : Unmounted run.0 run.1.0.asked ⊎ Runs run.0 run.1.0.asked → ⊥
       by_came (inl un) = unmounted_unaudited run.0 run.1.0.asked ran.disks.items ran.status un.why of

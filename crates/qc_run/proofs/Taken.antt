@@ -16,20 +16,13 @@ use Rattle.qc_run.specs.Left.{IsNoScript, IsUnread}
 use Rattle.qc_script.specs.Reading.{IsProper, IsScript, ScriptIsRefused}
 use Rattle.qc_script.proofs.ProperMade.{made_proper}
 use Rattle.qc_script.proofs.ProperScript.{proper_script}
-use Rattle.qc_run.specs.Run.{ReadsScript, RunsScript, AsksFor, HadScript, IsScriptFor, IsScriptOf, IsScriptFault, IsNoRun, IsRun, IsSessionRun}
+use Rattle.qc_run.specs.Run.{ReadsScript, RunsScript, AsksFor, HadScript, IsOfAudit, IsScriptFor, IsScriptOf, IsScriptFault, IsNoRun, IsRun, IsSessionRun}
 use Rattle.qc_run.specs.Words.{Asked, IsAudit, IsCommand, IsReading}
 use Rattle.qc_run.proofs.OneCommand.{not_both, not_made, not_run, one_number}
 use Rattle.qc_script.specs.MadePlan.{made_plan}
 use Rattle.qc_script.specs.JsonText.{Read}
 use Rattle.qc_script.specs.ScriptText.{script_of}
 use Rattle.qc_script.proofs.OneScript.{one_value, script_not_refused}
-
--- a status that audits alone answer
-abbrev pub IsOfAudit : Status → Type 0
-IsOfAudit status.Trail = Unit {0}
-IsOfAudit (status.Illegal entry) = Unit {0}
-IsOfAudit (status.Unserial event) = Unit {0}
-IsOfAudit _ = ⊥
 
 -- one byte more than a script may have
 abbrev pub most : ℕ

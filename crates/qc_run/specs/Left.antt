@@ -1,5 +1,5 @@
 -- What the parts of a run keep, each said once.
-use Rattle.std.specs.Prelude.{ℕ, ◌≤◌, ◌≡◌, ◌≢◌, ◌⊎◌, List, [], length, reverse, IfSome, IsSome}
+use Rattle.std.specs.Prelude.{ℕ, ◌≤◌, ◌≡◌, ◌≢◌, ◌⊎◌, List, [], length, reverse, IfSome}
 use Rattle.qc_audit.specs.Saved.{saved_text, IsSaved}
 use Rattle.qc_config.specs.declared.tuple.Tuple.{Tuple}
 use Rattle.qc_disk.specs.Disk.{DiskView}
@@ -16,7 +16,7 @@ use Rattle.qc_opening.specs.Images.{AreSound, IsFirstFault}
 use Rattle.qc_opening.specs.Refusing.{disks_in, ComeBack}
 use Rattle.qc_opening.specs.declared.mount_no.MountNo.{MountNo}
 use Rattle.qc_opening.specs.declared.mount_no.MountNo.TheVariants as no
-use Rattle.qc_opening.specs.Stored.{AllTell, AreImages, CopiesHadCause, HaveGrown, HavePaid, LedgerWasFull}
+use Rattle.qc_opening.specs.Stored.{AllTell, AreImages, HaveGrown, HavePaid, UnablesHadCause}
 use Rattle.qc_refine.specs.Images.{IsStandingWithin, Restores}
 use Rattle.qc_report.specs.Report.{Text}
 use Rattle.qc_script.specs.Plan.{ScriptPlan}
@@ -99,8 +99,7 @@ module _ {D : Type 0} (view : D → DiskView) (s : ScriptPlan) (shop : Shop) (pl
         → ∥ IsStandingWithin 1 s.table ran.start epoch (reverse ran.trail) images ∥₁
     pub grown : HaveGrown view s.table (shop.offers place) epoch ran.start ran.disks.items (reverse ran.trail)
     pub paid : HavePaid view (shop.counts place) ran.disks.items (reverse ran.trail)
-    pub full : IsSome (shop.offers place 0) → LedgerWasFull view journal_limit ran.disks.items (reverse ran.trail)
-    pub unable : CopiesHadCause s.table journal_limit (shop.offers place) epoch ran.start (reverse ran.trail)
+    pub unable : UnablesHadCause s.table journal_limit (shop.offers place) epoch ran.start (reverse ran.trail)
 
   -- why no store was mounted, where the shop's count of faults is this now
   abbrev pub IsUnmounted : ℕ → List D → Status → Type 0

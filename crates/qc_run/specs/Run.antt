@@ -236,6 +236,13 @@ IsSessionRun status.Memory = Unit {0}
 IsSessionRun status.Room = Unit {0}
 IsSessionRun _ = ⊥
 
+-- a status that audits alone answer
+abbrev pub IsOfAudit : Status → Type 0
+IsOfAudit status.Trail = Unit {0}
+IsOfAudit (status.Illegal entry) = Unit {0}
+IsOfAudit (status.Unserial event) = Unit {0}
+IsOfAudit _ = ⊥
+
 -- the status, or want of memory in its place
 abbrev pub IsOrMemory : Status → Status → Type 0
 IsOrMemory why answer = (answer ≡ why) ⊎ (answer ≡ status.Memory)

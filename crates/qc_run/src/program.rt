@@ -1,5 +1,5 @@
 //! The top call: all that the program does, over the streams and the shop of disks that it is handed.
-ghost use Rattle.std.specs.Prelude.{ℕ, List, ⊤, ◌++◌, ◌≡◌, ◌≤◌, ◌⊎◌, [], length, map, reverse, string_bytes, IfSome, IsSome};
+ghost use Rattle.std.specs.Prelude.{ℕ, List, ⊤, ◌++◌, ◌≡◌, ◌≤◌, ◌⊎◌, [], length, map, reverse, string_bytes, IfSome};
 ghost use Rattle.qc_disk.specs.Shop.{TellsAlike, first_disks};
 ghost use Rattle.qc_event.specs.History.{Name, limit};
 ghost use Rattle.qc_event.specs.Legal.{Legal};
@@ -7,7 +7,7 @@ ghost use Rattle.qc_event.specs.Sound.{IsSound};
 ghost use Rattle.qc_event.specs.Tables.{base_of, first_values, setting_of};
 ghost use Rattle.qc_io.specs.Io.{Rose, Keeps, Appends, AppendsFront, Drops, LosesWithin};
 ghost use Rattle.qc_opening.specs.Images.{AreSound, IsFirstFault};
-ghost use Rattle.qc_opening.specs.Stored.{AllTell, AreImages, CopiesHadCause, HaveGrown, HavePaid, LedgerWasFull};
+ghost use Rattle.qc_opening.specs.Stored.{AllTell, AreImages, HaveGrown, HavePaid, UnablesHadCause};
 ghost use Rattle.qc_refine.specs.Images.{IsStandingWithin, Restores};
 ghost use Rattle.qc_script.specs.Plan.{ScriptPlan};
 ghost use Rattle.qc_script.specs.Reading.{IsScript};
@@ -194,24 +194,17 @@ where
         (λ s. line.AtPlace (map string_bytes words.now) (λ place. HavePaid H.D.view
         ((H.view shop.old).counts place) result.disks.items (reverse result.trail))) }
 
-    // Each top that the ledger was unable to log for want of room at its disk, where that told its bytes: with its record
-    // behind what the disk has, it would have passed the longest journal.
-    ensures full { terms.OfRun (map string_bytes words.now) (S.view source.old).left
-        (S.view source.new).left result
-        (λ s. line.AtPlace (map string_bytes words.now)
-        (λ place. IsSome ((H.view shop.old).offers place 0)
-        → LedgerWasFull H.D.view terms.journal_limit result.disks.items
-        (reverse result.trail))) }
-
-    // Where a copy's disk told its bytes: of each request that it was unable to serve for want of room it might have made a
-    // grant at some time, and with that record behind what the disk had then it would have passed the longest journal; and
-    // the copy was never strange.
+    // Where the ledger's disk told its bytes: each top that the ledger was unable to log for want of room would with its
+    // record, behind those of the mounting and of the tops that were committed until then, have passed the longest journal.
+    // Where a copy's disk did: of each request that it was unable to serve for want of room it might have made a grant at
+    // some time, and with that record behind what the disk had then it would have passed the longest journal; and the copy
+    // was never strange.
     ensures unable { terms.OfRun (map string_bytes words.now) (S.view source.old).left
         (S.view source.new).left result
         (λ s. (epoch : ℕ)
         × terms.BeginsIn epoch s result.trail
         × line.AtPlace (map string_bytes words.now)
-        (λ place. CopiesHadCause s.table terms.journal_limit ((H.view shop.old).offers place)
+        (λ place. UnablesHadCause s.table terms.journal_limit ((H.view shop.old).offers place)
         epoch result.start (reverse result.trail))) }
 
     // The disks that come back are all that the shop gave: those of the place, from 0 on. None was where there was no
@@ -271,6 +264,8 @@ where
     ensures no_command { line.IsNoCommand (map string_bytes words.now)
         → terms.IsOrMemory Status.Usage result.status × (source.new ≡ source.old)
         × (shop.new ≡ shop.old) }
+    ensures of_audit { terms.IsOfAudit result.status
+        → line.IsAudit (map string_bytes words.now) }
     ensures script_fault { terms.IsScriptFault (map string_bytes words.now)
         (S.view source.old).left result.status }
     ensures no_script { line.IsReading (map string_bytes words.now)

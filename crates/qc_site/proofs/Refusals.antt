@@ -84,6 +84,16 @@ write_full {D} {g} old new f e ask tuple grant left is long copies same failed =
         (subst (λ n. IsTooLong (place_of old.journal) (limit_of old.journal) (grant_body n grant)) (sym copies) (long place refl)))
     by fault.Memory left long at = absurd cc
 
+-- and its journal is as it was then
+pub write_untouched : {D : Type 0} {g : Ghosts D} {T : Type 0} (old new : GrantLog D g) (f : Fault) (e : ServeNo) → WriteLeaves old new f → e ≡ of_fault f → IsErrOf {T = T} (Err e) no_serve.Full → new.journal ≡ old.journal
+write_untouched old new f e left is failed = let one : e ≡ no_serve.Full = cc in by f left (sym is ∙ one)
+  where
+    by : (f : Fault) → WriteLeaves old new f → of_fault f ≡ no_serve.Full → new.journal ≡ old.journal
+    by fault.Disk left at = absurd cc
+    by (fault.Broken place) left at = absurd left
+    by (fault.Full place) left at = left
+    by fault.Memory left at = absurd cc
+
 -- what want of memory or of room says to a request
 pub short_says : {D T : Type 0} {g : Ghosts D} (new : SiteState g) (want : Wanting) (r : Result T ServeNo) → IsErrAnd r (λ e. e ≡ no_serve.Short want) → IsWant new.replica.pass.seen want → IfErr r (ServeSays new)
 short_says new want (Ok x) is wanted = tt

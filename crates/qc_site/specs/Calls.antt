@@ -1,5 +1,6 @@
 -- What a call of a site leaves of it, and what its answers and its refusals say.
-use Rattle.std.specs.Prelude.{ℕ, ◌≡◌, Bool, true, false, List, length, Option, None, Some, is_some}
+use Rattle.std.specs.Prelude.{ℕ, ◌≡◌, ◌⊎◌, Bool, true, false, List, length, Option, None, Some, is_some}
+use Rattle.qc_config.specs.declared.tuple.Tuple.{Tuple}
 use Rattle.qc_event.specs.Grants.{grant_with}
 use Rattle.qc_disk.specs.declared.disk.Disk.{Ghosts}
 use Rattle.qc_event.specs.declared.event.Answered.{Answered}
@@ -16,7 +17,7 @@ use Rattle.qc_site.specs.AtDesk.{IsGranted}
 use Rattle.qc_site.specs.Log.{log_journal}
 use Rattle.qc_site.specs.Replica.{Standing}
 use Rattle.qc_site.specs.Since.{GrantsGrow}
-use Rattle.qc_site.specs.Sites.{AnswerEnters, GrowsByGrant, KeepsGranted}
+use Rattle.qc_site.specs.Sites.{AnswerEnters, GrowsByGrant, IsTooLongFor, KeepsGranted}
 use Rattle.qc_site.specs.declared.fault.SiteNo.{SiteNo}
 use Rattle.qc_site.specs.declared.fault.SiteNo.TheVariants as no_site
 use Rattle.qc_site.specs.declared.log.GrantLog.{GrantLog}
@@ -99,6 +100,10 @@ module _ {D : Type 0} {g : Ghosts D} where
   AnswerRests copy ask new answer.Down = new.replica.up ≡ false
   AnswerRests copy ask new answer.Full = CanServe new.replica
   AnswerRests copy ask new answer.Strange = new.strange ≡ true
+
+  -- what is granted is entered only where its record would not pass the limit
+  abbrev pub FitsOrRepeats : Ask → SiteState g → SiteState g → Tuple → Type 0
+  FitsOrRepeats ask old new tuple = (new.replica.pass.mine ≡ old.replica.pass.mine) ⊎ (IsTooLongFor old.log ask tuple → ⊥)
 
   -- A request was answered: at most the grant in hand was entered, and then the answer's entry; and the seer has seen what it
   -- rests on.

@@ -1,7 +1,8 @@
 -- A site: what it has in hand, what it enters, and what its disk keeps.
-use Rattle.std.specs.Prelude.{ℕ, ◌≡◌, ◌⊎◌, List, [], ◌∷◌, length, Option, Some, IfSome, Err}
+use Rattle.std.specs.Prelude.{ℕ, ◌≡◌, ◌⊎◌, List, [], ◌∷◌, length, Option, None, Some, IfSome, Err}
 use Rattle.qc_config.specs.declared.tuple.Tuple.{Tuple}
 use Rattle.qc_event.specs.Base.{Setting}
+use Rattle.qc_event.specs.Dead.{dead}
 use Rattle.qc_event.specs.Grants.{grant_with, MayGrant}
 use Rattle.qc_disk.specs.declared.disk.Disk.{Ghosts}
 use Rattle.qc_event.specs.declared.event.Answered.{Answered}
@@ -62,20 +63,38 @@ IsByLocks (answer.Blocked holder) = Unit {0}
 IsByLocks (answer.Dead ancestor) = Unit {0}
 IsByLocks _ = ⊥
 
+-- an answer leaves the copy up, able to serve
+abbrev pub LeavesUp : Answered → Type 0
+LeavesUp answer.Down = ⊥
+LeavesUp answer.Strange = ⊥
+LeavesUp _ = Unit {0}
+
+-- an answer that writes nothing to the disk
+abbrev pub IsUnwritten : Answered → Type 0
+IsUnwritten (answer.Blocked holder) = Unit {0}
+IsUnwritten (answer.Dead ancestor) = Unit {0}
+IsUnwritten answer.Full = Unit {0}
+IsUnwritten _ = ⊥
+
 -- memory was wanting, or the history takes no more entries
 abbrev pub IsSiteWant : Past → SiteNo → Type 0
 IsSiteWant past (no_site.Short short) = IsWant past short
 IsSiteWant past _ = ⊥
 
--- Of what a copy had seen at some time up to now it might have made a grant of this request, and it has granted no more since; and
--- the record of that grant would pass the limit.
+-- the record of a grant of this request would pass the limit
+abbrev pub IsTooLongFor : {D : Type 0} {g : Ghosts D} → GrantLog D g → Ask → Tuple → Type 0
+IsTooLongFor log ask tuple = IsTooLong (place_of log.journal) (limit_of log.journal) (grant_body log.copies (grant_with ask tuple))
+
+-- Of what a copy had seen at some time up to now it might have made a grant of this request, which was not dead, and it has granted
+-- no more since; and the record of that grant would pass the limit.
 pub record IsFullFor {D : Type 0} {g : Ghosts D} (setting : Setting) (copy : ℕ) (ask : Ask) (past : Past) (log : GrantLog D g) : Type 0 where
   pub tuple : Tuple
   pub earlier : Past
   pub older : IsOlder earlier past
   pub may : MayGrant setting earlier (copy_seat copy) copy (grant_with ask tuple)
+  pub alive : dead earlier ask.access ≡ None
   pub given : grants past copy ≡ grants earlier copy
-  pub too_long : IsTooLong (place_of log.journal) (limit_of log.journal) (grant_body log.copies (grant_with ask tuple))
+  pub too_long : IsTooLongFor log ask tuple
 
 -- where a copy's disk tells its bytes, it is strange so by what they are, against these grants and the one in hand
 abbrev pub Differs : {D : Type 0} {g : Ghosts D} → GrantLog D g → List Grant → Option Grant → Strange → Type 0

@@ -1,6 +1,7 @@
 //! How a site grants what is free: it writes the grant, and then enters it.
 ghost use Rattle.std.specs.Prelude.{◌≡◌, ◌⊎◌, true, false, IfErr, OnOk, OnErr, IsErrOf, IfSome, None, Some};
 ghost use Rattle.qc_config.specs.Tuple.{after};
+ghost use Rattle.qc_event.specs.Dead.{dead};
 ghost use Rattle.qc_event.specs.Grants.{grant_with, MayGrant};
 ghost use Rattle.qc_event.specs.declared.event.Answered.TheVariants.{Granted};
 ghost use Rattle.qc_event.specs.Base.{IsProper};
@@ -54,7 +55,7 @@ fn fall<D: Disk, N: Store, const C: u8>(log: &GrantLog<D>, replica: &mut Replica
 
 impl<D: Disk, N: Store, const C: u8> Site<D, N, C> {
     ghost use Rattle.qc_site.specs.Calls.{empty_handed, site_state, SiteBecame, HasServed, ServeSays};
-    ghost use Rattle.qc_site.specs.Sites.{IsFullFor};
+    ghost use Rattle.qc_site.specs.Sites.{IsFullFor, IsTooLongFor};
 
     // Writes the grant in hand.
     fn write(&mut self, ask: &Ask, tuple: &Tuple) -> Result<(), ServeNo>
@@ -63,6 +64,7 @@ impl<D: Disk, N: Store, const C: u8> Site<D, N, C> {
         requires hand { self.old.replica.hand ≡ Some (grant_with ask.now tuple.now) }
         requires may { IfSome self.old.replica.hand (MayGrant (setting_of N.table N.base)
             self.old.replica.pass.seen (copy_seat C) C) }
+        requires alive { dead self.old.replica.pass.seen ask.now.access ≡ None }
         requires asked { HasAsked self.old.replica.pass.seen ask.now }
         requires tuple { tuple.now ≡ after
             (seen N.base self.old.replica.pass.seen ask.now.copy ask.now.rec) ask.now.op }
@@ -76,6 +78,9 @@ impl<D: Disk, N: Store, const C: u8> Site<D, N, C> {
         ensures strange { self.new.strange ≡ self.old.strange }
         ensures full { IsErrOf result ServeNo.Full → IsFullFor (setting_of N.table N.base) C ask.now
             self.new.replica.pass.seen self.new.log }
+        ensures fits { OnOk result (IsTooLongFor self.old.log ask.now tuple.now → ⊥) }
+        ensures untouched { IsErrOf result ServeNo.Full
+            → log_journal self.new.log ≡ log_journal self.old.log }
         ensures cause { Costs (log_journal self.old.log) (log_journal self.new.log)
             (IsErrOf result ServeNo.Down) }
         ensures counts_once { CostsOnce (log_journal self.old.log) (log_journal self.new.log)
@@ -105,6 +110,7 @@ impl<D: Disk, N: Store, const C: u8> Site<D, N, C> {
         requires hand { self.old.replica.hand ≡ Some (grant_with ask.now tuple.now) }
         requires may { IfSome self.old.replica.hand (MayGrant (setting_of N.table N.base)
             self.old.replica.pass.seen (copy_seat C) C) }
+        requires alive { dead self.old.replica.pass.seen ask.now.access ≡ None }
         requires asked { HasAsked self.old.replica.pass.seen ask.now }
         requires tuple { tuple.now ≡ after
             (seen N.base self.old.replica.pass.seen ask.now.copy ask.now.rec) ask.now.op }
@@ -120,6 +126,9 @@ impl<D: Disk, N: Store, const C: u8> Site<D, N, C> {
             (LeavesKnown (setting_of N.table N.base) C self.new.replica.pass seer.new) }
         ensures full { IsErrOf result ServeNo.Full → IsFullFor (setting_of N.table N.base) C ask.now
             self.new.replica.pass.seen self.new.log }
+        ensures fits { OnOk result (IsTooLongFor self.old.log ask.now tuple.now → ⊥) }
+        ensures untouched { IsErrOf result ServeNo.Full
+            → log_journal self.new.log ≡ log_journal self.old.log }
         ensures cause { Costs (log_journal self.old.log) (log_journal self.new.log)
             (IsErrOf result ServeNo.Down) }
         ensures counts_once { CostsOnce (log_journal self.old.log) (log_journal self.new.log)

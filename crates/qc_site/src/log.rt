@@ -52,12 +52,15 @@ impl<D: Disk> GrantLog<D> {
         requires up { IsUp (log_journal self.old) }
         requires proper { (body.grant (format_1 (copies_of self.old))).fits grant.now }
 
-        // At `Ok` it is up, with the grant in hand. Full comes where the record would pass the limit, and changes nothing.
+        // At `Ok` it is up, with the grant in hand. Full comes where the record would pass the limit, or else memory is
+        // wanting, and changes nothing.
         ensures up { OnOk result (IsUp (log_journal self.new)) }
         ensures left { IfErr result (WriteLeaves self.old self.new) }
         ensures full { (place : ℕ) → result ≡ Err (Full place)
             → IsTooLong (place_of (log_journal self.old)) (limit_of (log_journal self.old))
             (grant_body (copies_of self.old) grant.now) }
+        ensures fits { OnOk result (IsTooLong (place_of (log_journal self.old))
+            (limit_of (log_journal self.old)) (grant_body (copies_of self.old) grant.now) → ⊥) }
 
         // Where the disk tells its bytes, each image has the record after `Ok`, and may have it where the journal is down.
         ensures over { OnOk result ((before : List (List ℕ)) (given : List Grant)

@@ -5,6 +5,7 @@ ghost use Rattle.qc_codec.specs.Bodies as body;
 ghost use Rattle.qc_codec.specs.Copy.{grant_form};
 ghost use Rattle.qc_codec.specs.Ledger.{readings};
 ghost use Rattle.qc_codec.specs.Restored.{restored_row};
+ghost use Rattle.qc_desk.specs.Held.{from_row};
 ghost use Rattle.qc_event.specs.Base.{start_tuple};
 ghost use Rattle.qc_event.specs.Tables.{base_of, first_tuple};
 ghost use Rattle.qc_journal.specs.Image.{HasAt, bodies_of};
@@ -14,7 +15,7 @@ ghost use Rattle.qc_ledger.specs.Runs.{Costs, CostsOnce, HasMore, KeepsAll, Leav
 ghost use Rattle.qc_site.specs.Image.{made_body, to_write, AreGranted, AreMountableAsCopy, IsCopyFault};
 ghost use Rattle.qc_site.specs.Refusing.{IsCopyRefusal, IsOfCopyImage};
 ghost use Rattle.qc_site.specs.Mounted.{MountsCopy, copies_of, copy_of, journal_of, records_of, disk_after};
-ghost use Rattle.qc_site.specs.Start.{from_row, start_of};
+ghost use Rattle.qc_site.specs.Start.{start_of};
 
 use crate::beginning::Beginning;
 use crate::fault::{SiteNo, mount_no};

@@ -58,8 +58,8 @@ fn of_site(no: SiteNo) -> ServeNo
 }
 
 impl<D: Disk, N: Store, const C: u8> Site<D, N, C> {
-    ghost use Rattle.qc_site.specs.Calls.{site_state, SiteBecame, CanServe, HasServed, ReviveSays, ServeSays};
-    ghost use Rattle.qc_site.specs.Sites.{Differs, EntersHand, IsByLocks, IsFullFor, IsStrangeFor};
+    ghost use Rattle.qc_site.specs.Calls.{site_state, SiteBecame, CanServe, FitsOrRepeats, HasServed, ReviveSays, ServeSays};
+    ghost use Rattle.qc_site.specs.Sites.{Differs, EntersHand, IsByLocks, IsFullFor, IsStrangeFor, IsUnwritten};
 
     // Is up, with nothing in hand.
     fn rise<R: Wait>(&mut self, rt: &R, desk: &Desk<N>) -> Result<(), SiteNo>
@@ -117,6 +117,12 @@ impl<D: Disk, N: Store, const C: u8> Site<D, N, C> {
             (LeavesKnown (setting_of N.table N.base) C self.new.replica.pass seer.new) }
         ensures full { IsErrOf result ServeNo.Full → IsFullFor (setting_of N.table N.base) C ask.now
             self.new.replica.pass.seen self.new.log }
+        ensures fits { (tuple : Tuple) → result ≡ Ok (Granted tuple)
+            → FitsOrRepeats ask.now (site_state self.old) (site_state self.new) tuple }
+        ensures untouched { IsErrOf result ServeNo.Full
+            → log_journal self.new.log ≡ log_journal self.old.log }
+        ensures unwritten { IfOk result (λ said. IsUnwritten said
+            → log_journal self.new.log ≡ log_journal self.old.log) }
         ensures cause { Costs (log_journal self.old.log) (log_journal self.new.log)
             (IsErrOf result ServeNo.Down) }
         ensures counts_once { CostsOnce (log_journal self.old.log) (log_journal self.new.log)
@@ -170,6 +176,12 @@ impl<D: Disk, N: Store, const C: u8> Site<D, N, C> {
             self.old.strange self.new.strange }
         ensures full { IsErrOf result ServeNo.Full → IsFullFor (setting_of N.table N.base) C ask.now
             self.new.replica.pass.seen self.new.log }
+        ensures fits { (tuple : Tuple) → CanServe self.old.replica → result ≡ Ok (Granted tuple)
+            → FitsOrRepeats ask.now (site_state self.old) (site_state self.new) tuple }
+        ensures untouched { CanServe self.old.replica → IsErrOf result ServeNo.Full
+            → log_journal self.new.log ≡ log_journal self.old.log }
+        ensures unwritten { CanServe self.old.replica → IfOk result (λ said. IsUnwritten said
+            → log_journal self.new.log ≡ log_journal self.old.log) }
         ensures cause { Costs (log_journal self.old.log) (log_journal self.new.log)
             (IsErrOf result ServeNo.Down) }
         ensures counts_once { CostsOnce (log_journal self.old.log) (log_journal self.new.log)
@@ -242,10 +254,17 @@ impl<D: Disk, N: Store, const C: u8> Site<D, N, C> {
         ensures known { OnOk result
             (LeavesKnown (setting_of N.table N.base) C self.new.replica.pass seer.new) }
 
-        // Full is answered of a request that was found free, whose record would pass the limit. A strange copy stays so, and
-        // answers nothing else; one turns strange for what its disk has in place of what it granted.
+        // Full is answered of a request that was found free, whose record would pass the limit. Where the copy could serve,
+        // what is granted anew would not pass it, and a refusal leaves the journal as it was.
         ensures full { result ≡ Ok Full → IsFullFor (setting_of N.table N.base) C ask.now
             self.new.replica.pass.seen self.new.log }
+        ensures fits { (tuple : Tuple) → CanServe self.old.replica → result ≡ Ok (Granted tuple)
+            → FitsOrRepeats ask.now (site_state self.old) (site_state self.new) tuple }
+        ensures unwritten { CanServe self.old.replica → IfOk result (λ said. IsUnwritten said
+            → log_journal self.new.log ≡ log_journal self.old.log) }
+
+        // A strange copy stays so, and answers nothing else; one turns strange for what its disk has in place of what it
+        // granted.
         ensures for_good { is_some self.old.strange ≡ true → (IfOk result (λ said. said ≡ Strange))
             × (self.new.strange ≡ self.old.strange) }
         ensures differs { IsStrangeFor (Differs self.old.log

@@ -1,14 +1,14 @@
 //! The tuples with which a copy starts: what its grants restore that logged tops keep.
-ghost use Rattle.std.specs.Prelude.{ℕ, ◌≡◌, ◌<◌, ◌≤◌, ◌++◌, ◌∷◌, [], length, map, slice_set, IfOk, OnOk, OnErr};
+ghost use Rattle.std.specs.Prelude.{◌≡◌, length, map, IfOk};
 ghost use Rattle.qc_codec.specs.Restored as kept;
-ghost use Rattle.qc_config.specs.Tuple.{after};
+ghost use Rattle.qc_desk.specs.Held.{from_row};
 ghost use Rattle.qc_event.specs.Tables.{first_tuple};
-ghost use Rattle.qc_site.specs.Start.{from_row};
 
 use crate::beginning::Beginning;
 use crate::tops::{is_kept, places_of};
 use qc_codec::Logged;
 use qc_config::{Op, Tuple};
+use qc_desk::change_tuple;
 use qc_event::{Grant, Table};
 use qc_names::lists::append;
 use std::alloc::{AllocError, Global};
@@ -30,19 +30,6 @@ fn first_tuples(alloc: Global, table: &Table) -> Result<Vec<Tuple>, AllocError>
     Ok(tuples)
 }
 
-// Changes the tuple of a grant's record, where there is one.
-fn change(tuples: &mut Vec<Tuple>, grant: &Grant)
-    ensures known { grant.now.rec < length tuples.old.items → tuples.new.items ≡ slice_set
-        tuples.old.items grant.now.rec
-        (after (from_row tuples.old.items grant.now.rec) grant.now.op) }
-    ensures past { length tuples.old.items ≤ grant.now.rec → tuples.new.items ≡ tuples.old.items }
-{
-    let rec = usize::from(grant.rec);
-    if rec < tuples.len() {
-        tuples[rec] = tuples[rec].after(&grant.op);
-    }
-}
-
 // It makes the type known that a grant holds.
 fn is_op(_op: &Op) {}
 
@@ -61,7 +48,7 @@ fn restored_row(
     for grant in grants {
         is_op(&grant.op);
         if is_kept(tops, &places, &grant.access) {
-            change(&mut tuples, grant);
+            change_tuple(&mut tuples, grant);
         }
     }
     Ok(tuples)

@@ -127,7 +127,7 @@ module _ (setting : Setting) (found : Findings) {D : Type 0} (view : D → Disk)
             kept = ∥∥₁_map was.kept.kept (λ k told. keeps_tops_later setting was.seen log since legal was.legal own (found.before 0) (view was.disk).may_leave (k told));
             grown = ∥∥₁_map was.kept.grown (λ k told. from_more (found.first 0) (found.before 0) (AreTopsBy (listed was.seen) was.seen) (AreTopsBy (listed log) log) (view was.disk) (λ bodies are. tops_told_later setting was.seen log since legal was.legal bodies are) (k told));
             paid = subst (λ p. Pays (found.first 0).faults (downs p) (view was.disk).faults) (sym own) was.kept.paid;
-            full = λ told. subst (λ p. HadNoRoom (listed log) (view was.disk).size found.limit p) (sym own) (room_retold setting was.seen log since legal was.legal (view was.disk).size found.limit (was.kept.full told));
+            full = λ told. subst (HadNoRoom (listed log) (found.before 0) found.limit) (sym own) (room_retold setting was.seen log since legal was.legal (found.before 0) found.limit (was.kept.full told));
           };
         }
 

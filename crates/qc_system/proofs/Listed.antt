@@ -62,12 +62,12 @@ all_on P Q [] on p = tt
 all_on P Q (t ∷ ts) on p = (on t p.0, all_on P Q ts on p.1)
 
 -- what agrees on tops tells the same records of them
-same_bodies : (f g : Name → List Name) (ts : List Name) → AllByRecursion (λ t. f t ≡ g t) ts → map (told_body f) ts ≡ map (told_body g) ts
+pub same_bodies : (f g : Name → List Name) (ts : List Name) → AllByRecursion (λ t. f t ≡ g t) ts → map (told_body f) ts ≡ map (told_body g) ts
 same_bodies f g [] agree = refl
 same_bodies f g (t ∷ ts) agree = ap₂ (λ (l : List Name) rest. top_body t l ∷ rest) agree.0 (same_bodies f g ts agree.1)
 
 -- the tops that entries under a number commit were seen to be ready
-tops_ready : (setting : Setting) (n : ℕ) (past : Past) → Legal setting past → AllByRecursion (λ t. is_ready past t ≡ true) (tops_of (entries_of n past))
+pub tops_ready : (setting : Setting) (n : ℕ) (past : Past) → Legal setting past → AllByRecursion (λ t. is_ready past t ≡ true) (tops_of (entries_of n past))
 tops_ready setting n [] legal = tt
 tops_ready setting n (e ∷ past) legal = by_seat (e.seat == n) (on (tops_of (entries_of n past)) (tops_ready setting n past legal.0))
   where
@@ -88,7 +88,7 @@ tops_ready setting n (e ∷ past) legal = by_seat (e.seat == n) (on (tops_of (en
 -- WHAT THE DISK KEEPS
 
 module _ (setting : Setting) (before now : Past) (older : IsOlder before now) (legal : Legal setting now) where
-  agree : (ts : List Name) → AllByRecursion (λ t. is_ready before t ≡ true) ts → AllByRecursion (λ t. listed before t ≡ listed now t) ts
+  pub agree : (ts : List Name) → AllByRecursion (λ t. is_ready before t ≡ true) ts → AllByRecursion (λ t. listed before t ≡ listed now t) ts
   agree ts = all_on (λ t. is_ready before t ≡ true) (λ t. listed before t ≡ listed now t) ts (λ t ready. sym (listed_stays setting before now t older legal ready))
 
   pending_ready : (s : State) (hand : Option Name) → ((t : Name) → hand ≡ Some t → is_ready before t ≡ true) → AllByRecursion (λ t. is_ready before t ≡ true) (pending_by s hand)

@@ -1,11 +1,12 @@
 -- With its record, each top that the ledger was unable to log for want of room would have passed the journal's limit.
-use Rattle.std.proofs.Common.{◌≡◌, inl, inr, ℕ, ◌+◌, ◌^◌, ◌≤◌, ◌<◌, Bool, true, false, cond, List, [], ◌∷◌, ◌++◌, ◌==◌, length, refl, sym, ap, ◌∙◌, subst, arith}
+use Rattle.std.proofs.Common.{◌≡◌, inl, inr, ℕ, ◌+◌, ◌^◌, ◌≤◌, ◌<◌, Bool, true, false, cond, List, [], ◌∷◌, ◌++◌, ◌==◌, length, map, refl, sym, ap, ◌∙◌, subst, arith, append-nil}
 use mathlib.Core.Bool.{true≢false}
 use Rattle.std.specs.Prelude.{Option, None, Some, MatchOption, Result, Ok, Err, IfErr, OnOk, ◌||◌, if◌then◌else◌}
+use Rattle.std.specs.List.{AllByRecursion}
 use Rattle.std.specs.Option.{option_map_or}
-use Rattle.std.proofs.lemmas.Bool.{cases_lt, or_cases}
-use Rattle.std.proofs.lemmas.List.{length-append}
-use Rattle.qc_disk.specs.Disk.{HasLength, IsImage}
+use Rattle.std.proofs.Math.Logic.{∥∥₁_elim, ∥∥₁_map}
+use Rattle.std.proofs.lemmas.Bool.{cases_lt, or_cases, or_left, or_right}
+use Rattle.qc_disk.specs.Disk.{IsImage}
 use Rattle.qc_disk.specs.declared.disk.Disk.{Ghosts}
 use Rattle.qc_event.specs.declared.event.Event.{Event}
 use Rattle.qc_event.specs.declared.event.Event.TheVariants as event
@@ -17,26 +18,24 @@ use Rattle.qc_event.specs.Legal.{Legal, MayHappen}
 use Rattle.qc_event.specs.Listed.{listed}
 use Rattle.qc_event.specs.Requests.{MayBeUnable, is_why, unable_in, was_unable}
 use Rattle.qc_event.specs.Seats.{copy_seat, ledger_seat}
-use Rattle.qc_event.proofs.Absent.{same_is}
+use Rattle.qc_event.proofs.Absent.{same_is, same_itself}
 use Rattle.qc_event.proofs.StillTold.{some_stays}
 use Rattle.qc_journal.specs.Image.{EndsAt, row}
-use Rattle.qc_journal.specs.Journal.{IsTooLong, Keeps, ImageStands, disk_of, in_hand, place_of}
+use Rattle.qc_journal.specs.Journal.{IsTooLong, IsUp, ImageStands, Keeps, disk_of, place_of}
+use Rattle.qc_journal.specs.State.{IsUpState, hand_of}
 use Rattle.qc_journal.specs.declared.journal.Journal.{Journal}
-use Rattle.qc_ledger.specs.Entered.{CommitsHand, EntersTop, RefusalEnters, commits_of, told_body}
-use Rattle.qc_ledger.specs.Shelf.{top_body}
+use Rattle.qc_journal.specs.declared.journal.State.{State}
+use Rattle.qc_journal.specs.declared.journal.State.TheVariants as state
+use Rattle.qc_ledger.specs.Entered.{CommitsHand, EntersTop, KeepsLogged, RefusalEnters, commits_of, pending_by, told_body, tops_of}
+use Rattle.qc_ledger.specs.Shelf.{IsIdle, journal_in, top_body, top_in}
 use Rattle.qc_ledger.specs.declared.fault.LedgerNo.{LedgerNo}
 use Rattle.qc_ledger.specs.declared.fault.LedgerNo.TheVariants as no
+use Rattle.qc_ledger.specs.declared.shelf.Shelf.{Shelf}
 use Rattle.qc_desk.specs.Entries.{IsOlder, entries_of}
-use Rattle.qc_system.specs.Kept.{HadNoRoom}
-use Rattle.qc_system.proofs.Listed.{listed_stays}
-use Rattle.qc_system.proofs.Paying.{at_most}
+use Rattle.qc_system.specs.Kept.{HadNoRoom, HadNoRoomFor}
+use Rattle.qc_system.proofs.Listed.{agree, listed_stays, same_bodies, tops_ready}
 
 -- TOO LONG A BODY
-
--- behind a later place it is too long still
-pub too_long_later : (place later most : ℕ) (body : List ℕ) → place ≤ later → IsTooLong place most body → IsTooLong later most body
-too_long_later place later most body on (inl passes) = inl (omega (arith, on, passes))
-too_long_later place later most body on (inr many) = inr many
 
 -- it is too long where it cannot be that it is not
 pub too_long_by : (place most : ℕ) (body : List ℕ) → ((IsTooLong place most body → ⊥) → ⊥) → IsTooLong place most body
@@ -51,21 +50,27 @@ too_long_by place most body never = elim (cases_lt most (place + 6 + length body
 
 -- WHERE A RECORD GOES
 
-ends_within : (place : ℕ) (bodies : List (List ℕ)) (image : List ℕ) → EndsAt place bodies image → place < length image
-ends_within place bodies image ends = omega (arith, ends.size, ap length ends.split, length-append (row bodies) (ends.gate ∷ ends.rest))
+stands_ends : (place : ℕ) (bodies : List (List ℕ)) (s : State) (image : List ℕ) → IsUpState s → ImageStands place bodies (hand_of s) image → EndsAt place bodies image
+stands_ends place bodies (state.Up missing) image up ends = ends
+stands_ends place bodies (state.Down held) image up ends = absurd up
 
-stands_within : (place : ℕ) (bodies : List (List ℕ)) (hand : Option (List ℕ)) (image : List ℕ) → ImageStands place bodies hand image → place < length image
-stands_within place bodies None image ends = ends_within place bodies image ends
-stands_within place bodies (Some body) image (inl ends) = ends_within place bodies image ends
-stands_within place bodies (Some body) image (inr ends) = omega (arith, ends_within (place + 5 + length body) (bodies ++ body ∷ []) image ends)
-
--- where the disk of a journal tells its bytes, the gate for the next record is among them
-pub gate_within : {D : Type 0} {g : Ghosts D} (journal : Journal D g) (bodies : List (List ℕ)) → Keeps journal bodies → IsImage (g.view (disk_of journal)).content (g.view (disk_of journal)).may_leave
-    → HasLength (g.view (disk_of journal)).content (g.view (disk_of journal)).size → place_of journal < (g.view (disk_of journal)).size
-gate_within {D} {g} journal bodies k here long =
+-- where a journal that is up tells its bytes, its next record goes behind those that it keeps
+pub place_is : {D : Type 0} {g : Ghosts D} (journal : Journal D g) (bodies : List (List ℕ)) → Keeps journal bodies → IsUp journal → IsImage (g.view (disk_of journal)).content (g.view (disk_of journal)).may_leave
+    → place_of journal ≡ length (row bodies)
+place_is {D} {g} journal bodies k up here =
     let left : (g.view (disk_of journal)).may_leave k.bytes = subst (λ o. IsImage o (g.view (disk_of journal)).may_leave) k.told here in
-    let size : (g.view (disk_of journal)).size ≡ length k.bytes = subst (λ o. HasLength o (g.view (disk_of journal)).size) k.told long in
-    omega (arith, stands_within (place_of journal) bodies (in_hand journal) k.bytes (k.each k.bytes left), size)
+    (stands_ends (place_of journal) bodies journal.state k.bytes up (k.each k.bytes left)).size
+
+none_pending : (s : State) (hand : Option Name) → IsUpState s → hand ≡ None → pending_by s hand ≡ []
+none_pending (state.Up missing) hand up none = ap (pending_by (state.Up missing)) none
+none_pending (state.Down held) hand up none = absurd up
+
+-- an idle ledger's goes behind those from before and those of the tops that it committed
+pub idle_place : {D : Type 0} {g : Ghosts D} (shelf : Shelf D g) (at : ℕ) (told : Name → List Name) (before : List (List ℕ)) (tops : List Name) → IsIdle shelf at → KeepsLogged told before shelf tops
+    → IsImage (g.view (disk_of (journal_in shelf))).content (g.view (disk_of (journal_in shelf))).may_leave → at ≡ length (row (before ++ map (told_body told) tops))
+idle_place shelf at told before tops idle k here =
+    let none = ap (λ ts. tops ++ ts) (none_pending (journal_in shelf).state (top_in shelf) idle.up idle.none) ∙ append-nil tops in
+    sym idle.at ∙ place_is (journal_in shelf) _ k.keeps idle.up here ∙ ap (λ ts. length (row (before ++ map (told_body told) ts))) none
 
 -- WHO WAS UNABLE
 
@@ -107,46 +112,67 @@ unable_ready setting (e ∷ past) n w legal told = some_stays (λ x. ready_in n 
 
 -- WANT OF ROOM
 
--- with what is listed later
-pub room_retold : (setting : Setting) (seen now : Past) → IsOlder seen now → Legal setting now → Legal setting seen → (place most : ℕ) → HadNoRoom (listed seen) place most (entries_of ledger_seat seen) → HadNoRoom (listed now) place most (entries_of ledger_seat seen)
-room_retold setting seen now older legal was place most had = λ top unable.
-    subst (λ l. IsTooLong place most (top_body top l)) (sym (listed_stays setting seen now top older legal (unable_ready setting seen top why.Full was unable))) (had top unable)
+module _ (told : Name → List Name) (before : List (List ℕ)) (most : ℕ) where
+  abbrev Had : Past → Type 0
+  Had own = HadNoRoom told before most own
 
--- what a logging enters
-module _ (told : Name → List Name) (hand : Option Name) (top : Name) (old new : Past) (place later most : ℕ) (on : place ≤ later) (had : HadNoRoom told place most old) where
-  -- whether a top had no room
-  abbrev full : Name → Past → Bool
-  full n past = was_unable past n why.Full
+  -- where the record of this top goes behind those of entries
+  abbrev place : Past → ℕ
+  place own = length (row (before ++ map (told_body told) (tops_of own)))
 
-  hand_none : (n : Name) (o : Option Name) (past : Past) → full n (commits_of o ++ past) ≡ full n past
-  hand_none n None past = refl
-  hand_none n (Some t) past = refl
-
-  still : (now : Past) → ((n : Name) → full n now ≡ full n old) → HadNoRoom told later most now
-  still now same = λ n unable. too_long_later place later most (told_body told n) on (had n (sym (same n) ∙ unable))
-
-  hand_same : (now : Past) → CommitsHand hand old now → (n : Name) → full n now ≡ full n old
-  hand_same now enters n = at_most (full n) (commits_of hand) old now (hand_none n hand old) enters
-
-  top_same : EntersTop hand top old new → (n : Name) → full n new ≡ full n old
-  top_same (inl enters) n = hand_same new enters n
-  top_same (inr enters) n = ap (full n) enters.all ∙ hand_same enters.mid enters.first_of_all n
-
-  -- what is told of another reason tells nothing of this one
-  other_why : (b : Bool) → option_map_or (is_why why.Full) (if b then Some why.Down else None) false ≡ false
-  other_why true = refl
-  other_why false = refl
-
-  refusal_room : (r : LedgerNo) → RefusalEnters r hand top old new → ((at : ℕ) → r ≡ no.Full at → IsTooLong later most (told_body told top)) → HadNoRoom told later most new
-  refusal_room no.Disk enters long = still new (λ n. ap (full n) enters.all ∙ ap (λ b. b || full n enters.mid) (other_why (same top n)) ∙ hand_same enters.mid enters.first_of_all n)
-  refusal_room (no.Image bad) enters long = absurd enters
-  refusal_room (no.Full at) enters long = λ n unable. by_test n (same top n) refl (sym (ap (full n) enters.all) ∙ unable)
+  after_hand : (hand : Option Name) (old now : Past) → CommitsHand hand old now → Had old → Had now
+  after_hand hand old now (inl is) had = subst Had (sym is) had
+  after_hand hand old now (inr is) had = subst Had (sym is) (by_hand hand)
     where
-      by_test : (n : Name) (b : Bool) → same top n ≡ b → (option_map_or (is_why why.Full) (if b then Some why.Full else None) false || full n enters.mid) ≡ true → IsTooLong later most (told_body told n)
-      by_test n true is h = subst (λ x. IsTooLong later most (told_body told x)) (same_is top n is) (long at refl)
-      by_test n false is h = still enters.mid (hand_same enters.mid enters.first_of_all) n h
-  refusal_room (no.Short want) enters long = still new (hand_same new enters)
+      by_hand : (o : Option Name) → Had (commits_of o ++ old)
+      by_hand None = had
+      by_hand (Some t) = (tt, had)
 
-  pub log_room : (r : Result (Unit {0}) LedgerNo) → OnOk r (EntersTop hand top old new) → IfErr r (λ refusal. RefusalEnters refusal hand top old new) → ((at : ℕ) → r ≡ Err (no.Full at) → IsTooLong later most (told_body told top)) → HadNoRoom told later most new
-  log_room (Ok x) ok err long = still new (top_same ok)
-  log_room (Err r) ok err long = refusal_room r err (λ at is. long at (ap Err is))
+  module _ (hand : Option Name) (top : Name) (old new : Past) (had : Had old) where
+    refusal_room : (r : LedgerNo) → RefusalEnters r hand top old new → ((at : ℕ) → r ≡ no.Full at → IsTooLong (place new) most (told_body told top)) → Had new
+    refusal_room no.Disk enters long = subst Had (sym enters.all) (tt, after_hand hand old enters.mid enters.first_of_all had)
+    refusal_room (no.Image bad) enters long = absurd enters
+    refusal_room (no.Full at) enters long =
+        let same : place new ≡ place enters.mid = ap (λ p. length (row (before ++ map (told_body told) p))) (ap tops_of enters.all ∙ append-nil (tops_of enters.mid)) in
+        subst Had (sym enters.all) (subst (λ n. IsTooLong n most (told_body told top)) same (long at refl), after_hand hand old enters.mid enters.first_of_all had)
+    refusal_room (no.Short want) enters long = after_hand hand old new enters had
+
+    pub log_room : (r : Result (Unit {0}) LedgerNo) → OnOk r (EntersTop hand top old new) → IfErr r (λ refusal. RefusalEnters refusal hand top old new) → ((at : ℕ) → r ≡ Err (no.Full at) → IsTooLong (place new) most (told_body told top)) → Had new
+    log_room (Ok x) (inl enters) err long = after_hand hand old new enters had
+    log_room (Ok x) (inr enters) err long = subst Had (sym enters.all) (tt, after_hand hand old enters.mid enters.first_of_all had)
+    log_room (Err r) ok err long = refusal_room r err (λ at is. long at (ap Err is))
+
+  -- it is so where it cannot be that it is not
+  pub no_room_by : (own : Past) → ∥ Had own ∥₁ → Had own
+  no_room_by [] had = tt
+  no_room_by (e ∷ own) had = (this e.event (∥∥₁_map had (λ h. h.0)), no_room_by own (∥∥₁_map had (λ h. h.1)))
+    where
+      this : (ev : Event) → ∥ HadNoRoomFor told before most own ev ∥₁ → HadNoRoomFor told before most own ev
+      this (event.Unable top why.Full) h = too_long_by (place own) most (told_body told top) (λ fits. ∥∥₁_elim h (hlevel) fits)
+      this _ h = tt
+
+-- with what is listed later
+module _ (f g : Name → List Name) (before : List (List ℕ)) (most : ℕ) where
+  front : (P : Name → Type 0) (a b : List Name) → AllByRecursion P (a ++ b) → AllByRecursion P a
+  front P [] b all = tt
+  front P (t ∷ a) b all = (all.0, front P a b all.1)
+
+  retold : (own : Past) → AllByRecursion (λ t. f t ≡ g t) (tops_of own) → ((n : Name) → was_unable own n why.Full ≡ true → f n ≡ g n) → HadNoRoom f before most own → HadNoRoom g before most own
+  retold [] agree unable had = tt
+  retold (e ∷ own) agree unable had = (this e.event (λ n h. unable n (or_left _ _ h)) had.0, retold own tops (λ n h. unable n (or_right _ _ h)) had.1)
+    where
+      tops : AllByRecursion (λ t. f t ≡ g t) (tops_of own)
+      tops = front (λ t. f t ≡ g t) (tops_of own) _ agree
+
+      this : (ev : Event) → ((n : Name) → says n why.Full ev ≡ true → f n ≡ g n) → HadNoRoomFor f before most own ev → HadNoRoomFor g before most own ev
+      this (event.Unable top why.Full) same long =
+          let here = same top (ap (λ b. option_map_or (is_why why.Full) (if b then Some why.Full else None) false) (same_itself top)) in
+          subst (λ bodies. IsTooLong (length (row (before ++ bodies))) most (told_body g top)) (same_bodies f g (tops_of own) tops)
+          (subst (λ l. IsTooLong (length (row (before ++ map (told_body f) (tops_of own)))) most (top_body top l)) here long)
+      this _ same long = tt
+
+pub room_retold : (setting : Setting) (seen now : Past) → IsOlder seen now → Legal setting now → Legal setting seen → (before : List (List ℕ)) (most : ℕ) → HadNoRoom (listed seen) before most (entries_of ledger_seat seen)
+    → HadNoRoom (listed now) before most (entries_of ledger_seat seen)
+room_retold setting seen now older legal was before most had =
+    retold (listed seen) (listed now) before most (entries_of ledger_seat seen) (agree setting seen now older legal _ (tops_ready setting ledger_seat seen was))
+    (λ n h. sym (listed_stays setting seen now n older legal (unable_ready setting seen n why.Full was h))) had

@@ -19,35 +19,19 @@ use Rattle.qc_event.specs.declared.event.Why.{Why}
 use Rattle.qc_event.specs.declared.event.Why.TheVariants as why
 use Rattle.qc_event.specs.declared.short.Short.{Short}
 use Rattle.qc_event.proofs.Absent.{same_is}
-use Rattle.qc_journal.specs.Image.{EndsAt, row}
-use Rattle.qc_journal.specs.Journal.{IsTooLong, IsUp, ImageStands, Keeps, disk_of, limit_of, place_of}
-use Rattle.qc_journal.specs.State.{IsUpState, hand_of}
-use Rattle.qc_journal.specs.declared.journal.Journal.{Journal}
-use Rattle.qc_journal.specs.declared.journal.State.{State}
-use Rattle.qc_journal.specs.declared.journal.State.TheVariants.{Up, Down}
+use Rattle.qc_journal.specs.Image.{row}
+use Rattle.qc_journal.specs.Journal.{IsTooLong, IsUp, disk_of, limit_of, place_of}
 use Rattle.qc_desk.specs.Entries.{IsOlder}
 use Rattle.qc_desk.proofs.Seers.{older_trans}
 use Rattle.qc_site.specs.AtDesk.{hand_entries, unable_entry}
 use Rattle.qc_site.specs.Back.{grant_body}
 use Rattle.qc_site.specs.Replica.{Standing}
 use Rattle.qc_site.specs.Calls.{AnswerRests, CanServe, SiteState}
-use Rattle.qc_site.specs.Sites.{AnswerEnters, EntersHand, EntersThen, IsByLocks, IsFullFor, KeepsGranted}
+use Rattle.qc_site.specs.Sites.{AnswerEnters, EntersHand, EntersThen, IsFullFor, KeepsGranted, LeavesUp}
 use Rattle.qc_site.specs.declared.log.GrantLog.{GrantLog}
 use Rattle.qc_system.specs.Kept.{CopyHadNoRoom, NoneStrange, WasFullFor}
 use Rattle.qc_system.proofs.Paying.{at_most}
-
--- WHERE A RECORD GOES
-
-stands_ends : (place : ℕ) (bodies : List (List ℕ)) (state : State) (image : List ℕ) → IsUpState state → ImageStands place bodies (hand_of state) image → EndsAt place bodies image
-stands_ends place bodies (Up missing) image up ends = ends
-stands_ends place bodies (Down held) image up ends = absurd up
-
--- where a journal that is up tells its bytes, its next record goes behind those that it keeps
-place_is : {D : Type 0} {g : Ghosts D} (journal : Journal D g) (bodies : List (List ℕ)) → Keeps journal bodies → IsUp journal → IsImage (g.view (disk_of journal)).content (g.view (disk_of journal)).may_leave
-    → place_of journal ≡ length (row bodies)
-place_is {D} {g} journal bodies k up here =
-    let left : (g.view (disk_of journal)).may_leave k.bytes = subst (λ o. IsImage o (g.view (disk_of journal)).may_leave) k.told here in
-    (stands_ends (place_of journal) bodies journal.state k.bytes up (k.each k.bytes left)).size
+use Rattle.qc_system.proofs.Room.{place_is}
 
 -- WHAT IS ENTERED
 
@@ -134,7 +118,7 @@ module _ (setting : Setting) (copy : ℕ) (before : List (List ℕ)) (most : ℕ
   pub room_later : (seen now own : Past) → IsOlder seen now → CopyHadNoRoom setting copy before most seen own → CopyHadNoRoom setting copy before most now own
   room_later seen now own older had access unable =
       let was = had access unable in
-      record { earlier = was.earlier; older = older_trans was.earlier seen now was.older older; grant = was.grant; of_access = was.of_access; may = was.may; too_long = was.too_long }
+      record { earlier = was.earlier; older = older_trans was.earlier seen now was.older older; grant = was.grant; of_access = was.of_access; may = was.may; alive = was.alive; too_long = was.too_long }
 
   -- what a site answers
   pub full_for : {D : Type 0} {g : Ghosts D} (ask : Ask) (log : GrantLog D g) (standing : Standing) → IsFullFor setting copy ask standing.pass.seen log → KeepsGranted copy before log standing → standing.hand ≡ None → IsUp log.journal
@@ -145,6 +129,7 @@ module _ (setting : Setting) (copy : ℕ) (before : List (List ℕ)) (most : ℕ
     grant = grant_with ask full.tuple;
     of_access = refl;
     may = full.may;
+    alive = full.alive;
     too_long =
         subst (λ n. IsTooLong place most (grant_body n (grant_with ask full.tuple))) copies
         (subst (λ m. IsTooLong place m (grant_body log.copies (grant_with ask full.tuple))) limit
@@ -178,13 +163,13 @@ serve_plain copy ask old new r enters err never none access unable = elim (by_re
   | inr now ↦ never (now.0.1 ∙ ap (λ x. Ok x) (says_strange now.0.0 now.0.2))
 ]
 
--- a copy that answers by its locks can serve
-pub locks_serve : {D : Type 0} {g : Ghosts D} (copy : ℕ) (ask : Ask) (new : SiteState g) (said : Answered) → AnswerRests copy ask new said → IsByLocks said → CanServe new.replica
+-- a copy that answers by its locks, or that it is full, can serve
+pub locks_serve : {D : Type 0} {g : Ghosts D} (copy : ℕ) (ask : Ask) (new : SiteState g) (said : Answered) → AnswerRests copy ask new said → LeavesUp said → CanServe new.replica
 locks_serve copy ask new (answer.Granted tuple) rests is = rests.0
 locks_serve copy ask new (answer.Blocked holder) rests is = rests
 locks_serve copy ask new (answer.Dead ancestor) rests is = rests
 locks_serve copy ask new answer.Down rests is = absurd is
-locks_serve copy ask new answer.Full rests is = absurd is
+locks_serve copy ask new answer.Full rests is = rests
 locks_serve copy ask new answer.Strange rests is = absurd is
 
 -- what an answer says

@@ -21,12 +21,12 @@ abbrev pub Keeping : Type 1
 Keeping = Disk → Past → Type 0
 
 module _ (setting : Setting) (found : Findings) where
-  -- The ledger's disk keeps the ledger's tops, where it tells its bytes, and kept those up to then at each moment since the mounting; it pays for each that was not logged for a failure, and with the record of each that was not for want of room it would pass the limit.
+  -- The ledger's disk keeps the ledger's tops, where it tells its bytes, and kept those up to then at each moment since the mounting; it pays for each that was not logged for a failure. Where it tells, the record of each that was not logged for want of room would have passed the limit.
   pub record LedgerKeeps (disk : Disk) (past : Past) : Type 0 where
     pub kept : ∥ (found.told 0 ≡ true → KeepsTops (found.before 0) disk.may_leave past) ∥₁
     pub grown : ∥ (found.told 0 ≡ true → GrownFrom (found.first 0) (found.before 0) (AreTopsBy (listed past) past) disk) ∥₁
     pub paid : Pays (found.first 0).faults (downs (entries_of ledger_seat past)) disk.faults
-    pub full : found.told 0 ≡ true → HadNoRoom (listed past) disk.size found.limit (entries_of ledger_seat past)
+    pub full : found.told 0 ≡ true → HadNoRoom (listed past) (found.before 0) found.limit (entries_of ledger_seat past)
 
   -- A copy's disk keeps the copy's grants, where it tells its bytes, and kept those up to then at each moment since the mounting; it pays for each request that it was down for. Where it tells, of each request that had no room a grant might have been made, and its record would have passed the limit, and the copy was never strange.
   pub record CopyKeeps (copy : ℕ) (disk : Disk) (past : Past) : Type 0 where

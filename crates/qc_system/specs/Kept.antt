@@ -1,5 +1,5 @@
 -- What the disks of a system keep since they were mounted.
-use Rattle.std.specs.Prelude.{◌≡◌, ◌≤◌, ◌+◌, ◌-◌, ◌^◌, ◌++◌, ℕ, Bool, true, false, IsTrue, List, length, map, min}
+use Rattle.std.specs.Prelude.{◌≡◌, ◌≤◌, ◌+◌, ◌-◌, ◌^◌, ◌∷◌, ◌++◌, [], ℕ, Bool, true, false, IsTrue, List, None, length, map, min}
 use Rattle.std.specs.List.{count_by}
 use Rattle.qc_disk.specs.Disk.{DiskView as Disk}
 use Rattle.qc_disk.specs.declared.disk.Disk.{Ghosts}
@@ -9,6 +9,7 @@ use Rattle.qc_event.specs.declared.event.Event.TheVariants as event
 use Rattle.qc_event.specs.declared.event.Grant.{Grant}
 use Rattle.qc_event.specs.declared.event.Why.TheVariants as why
 use Rattle.qc_event.specs.Base.{Setting}
+use Rattle.qc_event.specs.Dead.{dead}
 use Rattle.qc_event.specs.Grants.{MayGrant}
 use Rattle.qc_event.specs.History.{Past, Name, grants}
 use Rattle.qc_event.specs.Wants.{IsWant}
@@ -16,7 +17,7 @@ use Rattle.qc_event.specs.Listed.{listed}
 use Rattle.qc_event.specs.Requests.{was_unable}
 use Rattle.qc_event.specs.Seats.{copy_seat}
 use Rattle.qc_journal.specs.Image.{row}
-use Rattle.qc_journal.specs.Journal.{IsTooLong, disk_of, limit_of, place_of}
+use Rattle.qc_journal.specs.Journal.{IsTooLong, disk_of}
 use Rattle.qc_ledger.specs.Entered.{KeepsLogged, told_body, tops_of}
 use Rattle.qc_ledger.specs.Since.{AreTopsBy}
 use Rattle.qc_ledger.specs.declared.fault.LedgerNo.{LedgerNo}
@@ -65,23 +66,30 @@ downs past = count_by (λ (e : Entry). is_down e.event) past
 abbrev pub Pays : ℕ → ℕ → ℕ → Type 0
 Pays first told now = min (first + told) (2 ^ 64 - 1) ≤ now
 
--- of each top that the ledger's own entries say it was unable to log for want of room: its record, with the names that are told
--- to be aborted below it, behind the gate at a place would pass a limit
-abbrev pub HadNoRoom : (Name → List Name) → ℕ → ℕ → Past → Type 0
-HadNoRoom told place most own = (top : Name) → IsTrue (was_unable own top why.Full) → IsTooLong place most (told_body told top)
+-- Where an entry says that the ledger was unable to log a top for want of room: the top's record, with the names that are told to
+-- be aborted below it, behind those from before and one for each top that was committed until then, would pass a limit.
+abbrev pub HadNoRoomFor : (Name → List Name) → List (List ℕ) → ℕ → Past → Event → Type 0
+HadNoRoomFor told before most earlier (event.Unable top why.Full) = IsTooLong (length (row (before ++ map (told_body told) (tops_of earlier)))) most (told_body told top)
+HadNoRoomFor told before most earlier _ = Unit {0}
 
--- so it is behind the ledger's journal, with the names that are listed, and the journal's limit
-abbrev pub HadNoRoomIn : {D : Type 0} {g : Ghosts D} → Shelf D g → View → Type 0
-HadNoRoomIn shelf pass = HadNoRoom (listed pass.seen) (place_of (journal_of_shelf shelf)) (limit_of (journal_of_shelf shelf)) pass.mine
+-- so it was of each of the ledger's own entries
+abbrev pub HadNoRoom : (Name → List Name) → List (List ℕ) → ℕ → Past → Type 0
+HadNoRoom told before most [] = Unit {0}
+HadNoRoom told before most (e ∷ earlier) = HadNoRoomFor told before most earlier e.event × HadNoRoom told before most earlier
 
--- At a time up to now a copy might have made a grant of this access, whose record, behind those from before and one for each of
--- its grants then, would pass a limit.
+-- where the ledger's disk tells its bytes, so it was by the names that are listed
+abbrev pub NoRoomForTops : Bool → List (List ℕ) → ℕ → View → Type 0
+NoRoomForTops told before most pass = told ≡ true → HadNoRoom (listed pass.seen) before most pass.mine
+
+-- At a time up to now a copy might have made a grant of this access, which was not dead, and the grant's record, behind those from
+-- before and one for each of its grants then, would pass a limit.
 pub record WasFullFor (setting : Setting) (copy : ℕ) (before : List (List ℕ)) (most : ℕ) (past : Past) (access : Name) : Type 0 where
   pub earlier : Past
   pub older : IsOlder earlier past
   pub grant : Grant
   pub of_access : grant.access ≡ access
   pub may : MayGrant setting earlier (copy_seat copy) copy grant
+  pub alive : dead earlier access ≡ None
   pub too_long : IsTooLong (length (row (before ++ map (grant_body (length setting.base)) (grants earlier copy)))) most (grant_body (length setting.base) grant)
 
 -- so it was of each request that a copy's own entries say it was unable to serve for want of room

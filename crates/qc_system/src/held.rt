@@ -14,7 +14,7 @@ ghost use Rattle.qc_desk.specs.Known.{IsKnown};
 ghost use Rattle.qc_site.specs.Answers.{HasAnswered};
 ghost use Rattle.qc_site.specs.Calls.{CanServe};
 ghost use Rattle.qc_site.specs.Log.{log_journal};
-ghost use Rattle.qc_site.specs.Sites.{IsByLocks};
+ghost use Rattle.qc_site.specs.Sites.{LeavesUp};
 ghost use Rattle.qc_system.specs.Closing.{CopyKeeps};
 ghost use Rattle.qc_system.specs.Kept.{KeepsSince, NoRoomSince, NoneStrange, Pays, downs};
 ghost use Rattle.qc_system.specs.Parts.{IsMounted};
@@ -87,7 +87,7 @@ impl<D: Disk + Drop, N: Mounting, const C: u8> Held<D, N, C> {
         requires copy { ask.now.copy ≡ C }
         requires asked { HasAsked seer.old.seen ask.now }
         ensures answered { IfOk result (HasAnswered C seer.new.seen ask.now) }
-        ensures serves { IfOk result (λ said. IsByLocks said → CanServe self.new.site.replica) }
+        ensures serves { IfOk result (λ said. LeavesUp said → CanServe self.new.site.replica) }
         ensures room { IsErrOf result Room → length seer.new.seen ≡ limit }
         ensures seer { SeesMore seer.old seer.new }
         ensures known { IsKnown (setting_of N.table N.base) seer.new }

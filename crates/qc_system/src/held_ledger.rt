@@ -16,7 +16,7 @@ ghost use Rattle.qc_ledger.specs.Since.{TopsGrow};
 ghost use Rattle.qc_desk.specs.Entries.{entries_of};
 ghost use Rattle.qc_desk.specs.Known.{IsKnown};
 ghost use Rattle.qc_system.specs.Closing.{LedgerKeeps};
-ghost use Rattle.qc_system.specs.Kept.{HadNoRoomIn, HasRefused, Pays, TopsSince, downs};
+ghost use Rattle.qc_system.specs.Kept.{HadNoRoom, HasRefused, NoRoomForTops, Pays, TopsSince, downs};
 ghost use Rattle.qc_system.specs.Parts.{IsFound};
 
 use crate::boxed::Boxed;
@@ -29,7 +29,7 @@ use std::sync::Wait;
 
 /// The ledger in its lock. Its disk keeps what was found there at the mounting, and the tops that were committed since,
 /// each with the names that are listed of it; so it did at each moment since the mounting. It pays for each top that was
-/// not logged for a failure, and one that was not for want of room would not fit behind its journal.
+/// not logged for a failure, and one that was not for want of room would not have fitted behind its journal then.
 #[derive(Drop)]
 pub(crate) struct HeldLedger<D: Disk + Drop, N: Mounting>
 where
@@ -40,7 +40,7 @@ where
     ghost pays: { Pays (N.first 0).faults (downs ledger.pass.mine)
         (D.view (disk_of (journal_in ledger.shelf)).disk.value).faults },
     ghost limit: { limit_of (journal_in ledger.shelf) ≡ N.limit },
-    ghost full: { ∥ HadNoRoomIn ledger.shelf ledger.pass ∥₁ },
+    ghost full: { ∥ NoRoomForTops (N.told 0) (N.before 0) N.limit ledger.pass ∥₁ },
 }
 
 // Logs a ready top, with the names that are listed of it, and shows the seer what was entered.
@@ -78,8 +78,13 @@ fn log_listed<D: Disk + Drop, N: Mounting, R: Wait>(
         → Pays first (downs ledger.new.pass.mine)
         (D.view (disk_of (journal_in ledger.new.shelf))).faults }
     ensures limit { limit_of (journal_in ledger.new.shelf) ≡ limit_of (journal_in ledger.old.shelf) }
-    ensures full { HadNoRoomIn ledger.old.shelf ledger.old.pass
-        → HadNoRoomIn ledger.new.shelf ledger.new.pass }
+    ensures full { (before : List (List ℕ))
+        → KeepsLogged (listed ledger.old.pass.seen) before ledger.old.shelf
+        (tops_of ledger.old.pass.mine)
+        → HadNoRoom (listed ledger.old.pass.seen) before (limit_of (journal_in ledger.old.shelf))
+        ledger.old.pass.mine
+        → HadNoRoom (listed ledger.new.pass.seen) before (limit_of (journal_in ledger.new.shelf))
+        ledger.new.pass.mine }
     ensures ended { OnOk result (IsTrue (is_some (end seer.new.seen top.now))) }
     ensures refused { IfErr result (HasRefused seer.new.seen top.now) }
     ensures seer { SeesMore seer.old seer.new }

@@ -11,9 +11,9 @@ use Rattle.qc_opening.proofs.Mountings.Stores.{by_err, come_back, fault_of, give
 use Rattle.qc_refine.specs.Images.{IsStandingWithin, Restores}
 use Rattle.qc_script.specs.Steps.{plan_of_script}
 use Rattle.qc_opening.specs.Parts.{counted_by, told_by}
-use Rattle.qc_opening.specs.Stored.{disks_of, past_of, AreImages, CopiesHadCause, HasKept, HasRun, HaveGrown, HavePaid, LedgerWasFull}
+use Rattle.qc_opening.specs.Stored.{disks_of, past_of, AreImages, HasKept, HasRun, HaveGrown, HavePaid, UnablesHadCause}
 use Rattle.qc_opening.proofs.Grown.{had_cause, have_grown}
-use Rattle.qc_opening.proofs.Told.{all_returned, first, kept, paid, restored, stands, tell_offered, was_full}
+use Rattle.qc_opening.proofs.Told.{all_returned, first, kept, paid, restored, stands, tell_offered}
 use Rattle.qc_opening.proofs.opening.run_stored.Goals as goal
 
 pub returns-in_err-disks-clause-disks : goal.returns-in_err-disks-clause-disks
@@ -94,7 +94,7 @@ returns-clause-unable g c =
     let told = told_by (map (λ d. (view d).content) disks) in
     let counts = counted_by (map (λ d. (view d).faults) disks) in
     let tells = tell_offered view plan.table offers disks c.in_ok-disks.ensures.offered c.in_ok-disks.ensures.all in
-    if_ok c.run_disks.result (HasRun view plan c.args.limit told counts) (λ stored. CopiesHadCause plan.table c.args.limit offers stored.epoch stored.ended.start (past_of stored)) c.run_disks.ensures.ran
+    if_ok c.run_disks.result (HasRun view plan c.args.limit told counts) (λ stored. UnablesHadCause plan.table c.args.limit offers stored.epoch stored.ended.start (past_of stored)) c.run_disks.ensures.ran
     (λ stored run. had_cause view plan.table c.args.limit offers stored (kept view plan c.args.limit told offers counts tells stored run))
 
 pub returns-clause-paid : goal.returns-clause-paid
@@ -107,18 +107,6 @@ returns-clause-paid g c =
     let counts = counted_by (map (λ d. (view d).faults) disks) in
     if_ok c.run_disks.result (HasRun view plan c.args.limit told counts) (λ stored. HavePaid view shop (disks_of stored) (past_of stored)) c.run_disks.ensures.ran
     (λ stored run. paid view plan c.args.limit told shop disks stored c.in_ok-disks.ensures.counted c.in_ok-disks.ensures.all run)
-
-pub returns-clause-full : goal.returns-clause-full
-returns-clause-full g c = λ some.
-    let view = g.H.D.Disk.view in
-    let plan = plan_of_script c.args.script.now in
-    let offers = (g.H.Shop.view c.args.shop.now).offers c.args.place.now in
-    let disks = c.in_ok-disks.disks.items in
-    let told = told_by (map (λ d. (view d).content) disks) in
-    let counts = counted_by (map (λ d. (view d).faults) disks) in
-    let tells = tell_offered view plan.table offers disks c.in_ok-disks.ensures.offered c.in_ok-disks.ensures.all in
-    if_ok c.run_disks.result (HasRun view plan c.args.limit told counts) (λ stored. LedgerWasFull view c.args.limit (disks_of stored) (past_of stored)) c.run_disks.ensures.ran
-    (λ stored run. was_full view plan c.args.limit told offers counts tells stored run some)
 
 pub returns-clause-sound : goal.returns-clause-sound
 returns-clause-sound g c = λ images offered many.

@@ -41,7 +41,6 @@ returns-in-Ok-clause-answer g c =
         stands = has.stands;
         grown = has.grown;
         paid = has.paid;
-        full = has.full;
         unable = has.unable;
       });
     }

@@ -41,6 +41,9 @@ returns-clause-follows_script g c = λ ended. clause.by_run _ _ _ _ (g.H.Shop.vi
 pub returns-clause-started : goal.returns-clause-started
 returns-clause-started g c = λ it. clause.by_script _ _ _ _ (g.H.Shop.view c.args.shop.now) _ _ _ _ _ c.answer.ensures.answer it (λ s it to. tt)
 
+pub returns-clause-of_audit : goal.returns-clause-of_audit
+returns-clause-of_audit g c = clause.of_audit _ _ _ _ (g.H.Shop.view c.args.shop.now) _ _ _ _ c.answer.ensures.answer
+
 pub returns-clause-in_doubt : goal.returns-clause-in_doubt
 returns-clause-in_doubt g c = clause.in_doubt _ _ _ _ (g.H.Shop.view c.args.shop.now) _ _ _ _ c.answer.ensures.answer
 
@@ -71,9 +74,6 @@ returns-clause-come_back g c = clause.came_back _ _ _ _ (g.H.Shop.view c.args.sh
 
 pub returns-clause-paid : goal.returns-clause-paid
 returns-clause-paid g c = clause.of_run _ _ _ _ (g.H.Shop.view c.args.shop.now) _ _ _ _ _ c.answer.ensures.answer (λ s it has. clause.as_asked (map string_bytes c.args.words.now) it.asked _ it.is_command has.paid)
-
-pub returns-clause-full : goal.returns-clause-full
-returns-clause-full g c = clause.of_run _ _ _ _ (g.H.Shop.view c.args.shop.now) _ _ _ _ _ c.answer.ensures.answer (λ s it has. clause.as_asked (map string_bytes c.args.words.now) it.asked _ it.is_command has.full)
 
 pub returns-clause-unable : goal.returns-clause-unable
 returns-clause-unable g c = clause.of_run _ _ _ _ (g.H.Shop.view c.args.shop.now) _ _ _ _ _ c.answer.ensures.answer (λ s it has. (has.epoch, has.begins, clause.as_asked (map string_bytes c.args.words.now) it.asked _ it.is_command has.unable))
@@ -112,7 +112,7 @@ returns-clause-no_script g c = λ reading.
     let now = (g.S.Source.view c.answer.new.source).left in
     none_was_run before now c.answer.result.status
     (λ is. clause.usage _ _ _ _ (g.H.Shop.view c.args.shop.now) _ _ _ _ c.answer.ensures.answer is (asked_as reading.0) (reading.0, reading.1, refl))
-    (clause.not_of_audit _ _ _ _ (g.H.Shop.view c.args.shop.now) _ _ _ _ c.answer.ensures.answer (reads_no_trail words reading))
+    (λ of. reads_no_trail words reading (clause.of_audit _ _ _ _ (g.H.Shop.view c.args.shop.now) _ _ _ _ c.answer.ensures.answer of))
     (λ had. elim (clause.by_script _ _ _ _ (g.H.Shop.view c.args.shop.now) _ _ _ _ (λ _. Unit {0}) c.answer.ensures.answer had (λ s it to. tt)) [
       | inl audit ↦ absurd (reads_no_trail words reading audit)
       | inr run ↦ (run.0, was_read words before now run.0 run.1.asked reading run.1.is_command run.1.is_script)
@@ -153,7 +153,7 @@ returns-clause-completes g c = λ s asks read_well wrote_well.
     let before = (g.S.Source.view c.args.source.now).left in
     script_was_run words before s c.answer.result.status _ _ asks
     (clause.script_fault _ _ _ _ (g.H.Shop.view c.args.shop.now) _ _ _ _ c.answer.ensures.answer)
-    (clause.not_of_audit _ _ _ _ (g.H.Shop.view c.args.shop.now) _ _ _ _ c.answer.ensures.answer (no_audit words before s asks))
+    (λ of. no_audit words before s asks (clause.of_audit _ _ _ _ (g.H.Shop.view c.args.shop.now) _ _ _ _ c.answer.ensures.answer of))
     (λ usage. clause.usage _ _ _ _ (g.H.Shop.view c.args.shop.now) _ _ _ _ c.answer.ensures.answer usage asks.asked asks.is_command)
     (λ failed. (clause.read_failed _ _ _ _ (g.H.Shop.view c.args.shop.now) _ _ _ _ c.answer.ensures.answer failed).1) (clause.write_failed _ _ _ _ (g.H.Shop.view c.args.shop.now) _ _ _ _ c.answer.ensures.answer) read_well wrote_well
 

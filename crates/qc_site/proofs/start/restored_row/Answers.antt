@@ -3,10 +3,10 @@ use Rattle.std.proofs.Common.{◌≡◌, ◌∙◌, ◌+◌, ◌∷◌, ◌++◌
 use Rattle.std.specs.Prelude.{map}
 use Rattle.std.proofs.lemmas.List.{length-map, take_more}
 use Rattle.qc_event.specs.declared.event.Grant.{Grant}
-use Rattle.qc_codec.specs.Restored.{restored_row}
+use Rattle.qc_codec.specs.Restored.{is_kept, restored_row}
 use Rattle.qc_event.specs.Tables.{first_tuple}
-use Rattle.qc_site.specs.Start.{from_row}
-use Rattle.qc_site.proofs.Rows.{row_more, row_none, row_same}
+use Rattle.qc_desk.specs.Held.{from_row}
+use Rattle.qc_desk.proofs.Rows.{row_more, row_none, row_same}
 use Rattle.qc_site.proofs.start.restored_row.Goals as goal
 use Rattle.qc_site.proofs.start.restored_row.Goals.{then-is_kept, else-is_kept}
 
@@ -14,7 +14,7 @@ pub loop-grant-init : goal.loop-grant-init
 loop-grant-init c =
     let firsts = map first_tuple c.args.table.now.records in
     c.in_ok-tuples.ensures
-    ∙ sym (row_none c.args.tops.now firsts)
+    ∙ sym (row_none (is_kept c.args.tops.now) firsts)
     ∙ ap (λ n. restored_row c.args.tops.now n (from_row firsts) []) (length-map c.args.table.now.records first_tuple)
 
 pub loop-grant-preserved : goal.loop-grant-preserved
@@ -28,11 +28,11 @@ loop-grant-preserved c =
     elim c.if-is_kept.branch [
       | then-is_kept w ↦
           ap (λ v. v.items) w.tuples-is
-          ∙ row_more tops records start gs g c.loop-grant.tuples.items w.change.new.tuples.items (sym c.is_kept.ensures ∙ w.if-is_kept.true) w.change.ensures.known w.change.ensures.past c.loop-grant.invariant
+          ∙ row_more (is_kept tops) records start gs g c.loop-grant.tuples.items w.change_tuple.new.tuples.items (sym c.is_kept.ensures ∙ w.if-is_kept.true) w.change_tuple.ensures.known w.change_tuple.ensures.past c.loop-grant.invariant
           ∙ ap (restored_row tops records start) (sym more)
       | else-is_kept w ↦
           ap (λ v. v.items) w.tuples-is
           ∙ c.loop-grant.invariant
-          ∙ sym (row_same tops records start gs g (sym c.is_kept.ensures ∙ w.if-is_kept.false))
+          ∙ sym (row_same (is_kept tops) records start gs g (sym c.is_kept.ensures ∙ w.if-is_kept.false))
           ∙ ap (restored_row tops records start) (sym more)
     ]

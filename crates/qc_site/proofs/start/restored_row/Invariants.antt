@@ -3,7 +3,7 @@ use Rattle.std.proofs.Common.{◌≡◌, length, take}
 use Rattle.std.specs.Prelude.{map}
 use Rattle.qc_codec.specs.Restored.{restored_row}
 use Rattle.qc_event.specs.Tables.{first_tuple}
-use Rattle.qc_site.specs.Start.{from_row}
+use Rattle.qc_desk.specs.Held.{from_row}
 use Rattle.qc_site.proofs.start.restored_row.Given as goal
 
 abbrev pub invariant-loop-grant : goal.invariant-loop-grant

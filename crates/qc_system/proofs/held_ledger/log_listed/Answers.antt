@@ -5,7 +5,7 @@ use Rattle.qc_event.specs.Legal.{Legal}
 use Rattle.qc_event.specs.Listed.{listed}
 use Rattle.qc_event.specs.Seats.{ledger_seat}
 use Rattle.qc_event.specs.Tables.{setting_of}
-use Rattle.qc_journal.specs.Journal.{IsTooLong, disk_of, limit_of, place_of}
+use Rattle.qc_journal.specs.Journal.{IsTooLong, disk_of, limit_of}
 use Rattle.qc_ledger.specs.Calls.{ledger_state}
 use Rattle.qc_ledger.specs.Entered.{GrowsBy, KeepsLogged, told_body, tops_of}
 use Rattle.qc_ledger.specs.Runs.{Leaves}
@@ -20,7 +20,7 @@ use Rattle.qc_desk.proofs.Seers.{older_trans}
 use Rattle.qc_system.specs.Kept.{HadNoRoom, Pays, downs}
 use Rattle.qc_system.proofs.Listed.{listed_stays, over_seen, tops_retold}
 use Rattle.qc_system.proofs.Paying.{log_pays}
-use Rattle.qc_system.proofs.Room.{log_room, room_retold}
+use Rattle.qc_system.proofs.Room.{idle_place, log_room, room_retold}
 use Rattle.qc_system.proofs.Standing.{ended_still, refused_still}
 use Rattle.qc_system.proofs.held_ledger.log_listed.Goals as goal
 
@@ -74,7 +74,7 @@ returns-clause-pays g c = λ first pays.
     subst (λ s. Pays first (downs last.pass.mine) (g.D.Disk.view s.journal.disk).faults) (sym c.show.ensures.shelf) (subst (λ p. Pays first (downs p) (g.D.Disk.view mid.shelf.journal.disk).faults) (sym c.show.ensures.mine) now)
 
 pub returns-clause-full : goal.returns-clause-full
-returns-clause-full g c = λ had.
+returns-clause-full g c = λ before over had.
     let setting = setting_of g.N.Store.table g.N.Store.base in
     let first = c.args.ledger.now in
     let mid = c.log-answer.new.self in
@@ -86,16 +86,16 @@ returns-clause-full g c = λ had.
     let told : c.args.aborted.now ≡ listed last.pass.seen top = c.requires.listed ∙ sym (listed_stays setting c.args.seer.now.seen last.pass.seen top asked legal c.requires.ready) in
     let own : first.pass.mine ≡ entries_of ledger_seat first.pass.seen = (known_again setting first.pass first.known).mine first.live ∙ ap (λ n. entries_of n first.pass.seen) first.number in
     let f = listed last.pass.seen in
-    let place = place_of (journal_in first.shelf) in
-    let later = place_of (journal_in mid.shelf) in
     let most = limit_of (journal_in first.shelf) in
-    let was : HadNoRoom f place most first.pass.mine = subst (λ p. HadNoRoom f place most p) (sym own)
-    (room_retold setting first.pass.seen last.pass.seen seen legal (known_again setting first.pass first.known).legal place most (subst (λ p. HadNoRoom (listed first.pass.seen) place most p) own had)) in
-    let now : HadNoRoom f later most mid.pass.mine = log_room f (top_in first.shelf) top first.pass.mine mid.pass.mine place later most c.log-answer.ensures.became.place was c.log-answer.result (logged_enters c.log-answer.result c.args.top.now (ledger_state c.args.ledger.now) (ledger_state c.log-answer.new.self) c.log-answer.ensures.logged) c.log-answer.ensures.refused
+    let was : HadNoRoom f before most first.pass.mine = subst (HadNoRoom f before most) (sym own)
+    (room_retold setting first.pass.seen last.pass.seen seen legal (known_again setting first.pass first.known).legal before most (subst (HadNoRoom (listed first.pass.seen) before most) own had)) in
+    let kept : KeepsLogged f before mid.shelf (tops_of mid.pass.mine) = c.log-answer.ensures.became.kept f before told
+    (over_seen setting first.pass last.pass.seen before first.shelf seen legal (known_again setting first.pass first.known).legal own first.may over) in
+    let now : HadNoRoom f before most mid.pass.mine = log_room f before most (top_in first.shelf) top first.pass.mine mid.pass.mine was c.log-answer.result (logged_enters c.log-answer.result c.args.top.now (ledger_state c.args.ledger.now) (ledger_state c.log-answer.new.self) c.log-answer.ensures.logged) c.log-answer.ensures.refused
     (λ at is. let full = c.log-answer.ensures.full at is in
-    subst (λ n. IsTooLong n most (told_body f top)) (sym full.0.at) (subst (λ l. IsTooLong at most (top_body top l)) told full.1)) in
-    let bound : HadNoRoom f later (limit_of (journal_in mid.shelf)) mid.pass.mine = subst (λ m. HadNoRoom f later m mid.pass.mine) (sym c.log-answer.ensures.became.limit) now in
-    subst (λ s. HadNoRoom f (place_of (journal_in s)) (limit_of (journal_in s)) last.pass.mine) (sym c.show.ensures.shelf) (subst (λ p. HadNoRoom f later (limit_of (journal_in mid.shelf)) p) (sym c.show.ensures.mine) bound)
+    subst (λ n. IsTooLong n most (told_body f top)) (idle_place mid.shelf at f before (tops_of mid.pass.mine) full.0 kept (g.met.D.Disk.reads_as_image (disk_of (journal_in mid.shelf)))) (subst (λ l. IsTooLong at most (top_body top l)) told full.1)) in
+    subst (λ s. HadNoRoom f before (limit_of (journal_in s)) last.pass.mine) (sym c.show.ensures.shelf)
+    (subst (λ m. HadNoRoom f before m last.pass.mine) (sym c.log-answer.ensures.became.limit) (subst (HadNoRoom f before most) (sym c.show.ensures.mine) now))
 
 pub returns-clause-ended : goal.returns-clause-ended
 returns-clause-ended g c = ended_still c.log-answer.result c.log-answer.new.self.pass.seen c.show.new.seer.seen c.args.top.now (subst (λ p. IsOlder c.log-answer.new.self.pass.seen p) (sym c.show.ensures.same) c.show.ensures.seen) (logged_stands c.log-answer.result c.args.top.now (ledger_state c.args.ledger.now) (ledger_state c.log-answer.new.self) c.log-answer.ensures.logged)

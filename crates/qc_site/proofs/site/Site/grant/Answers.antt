@@ -1,4 +1,4 @@
-use Rattle.std.proofs.Common.{◌++◌, refl, sym, ap, ◌∙◌, inl}
+use Rattle.std.proofs.Common.{◌≡◌, ◌++◌, refl, sym, ap, ◌∙◌, subst, inl, inr}
 use Rattle.std.specs.Prelude.{Ok, Some, is_some}
 use Rattle.qc_event.specs.declared.event.Answered.TheVariants.{Granted}
 use Rattle.qc_event.specs.Tables.{setting_of}
@@ -8,6 +8,7 @@ use Rattle.qc_desk.specs.declared.consult.Consulted.TheVariants.{Fresh}
 use Rattle.qc_site.specs.AtDesk.{hand_after, told_entries}
 use Rattle.qc_site.specs.Calls.{empty_handed, site_state, SiteState}
 use Rattle.qc_site.specs.Log.{log_journal}
+use Rattle.qc_site.specs.Sites.{IsTooLongFor}
 use Rattle.qc_site.specs.declared.serve.ServeNo.TheVariants.{Down, Full}
 use Rattle.qc_site.proofs.Again.{err_or_again, fresh_or_again, one_tuple}
 use Rattle.qc_site.proofs.Calls.{asks, became_on, looked, serves_on}
@@ -165,3 +166,15 @@ returns-in_err-told-clause-full g c = λ full. absurd (short_not c.in_err-told.f
 
 pub returns-in_ok-admit-in-Free-clause-counts_once : goal.returns-in_ok-admit-in-Free-clause-counts_once
 returns-in_ok-admit-in-Free-clause-counts_once g c = record { once = c.in_ok-admit-in-Free.ensures.counts_once.once; spared = λ never. c.in_ok-admit-in-Free.ensures.counts_once.spared (λ failed. absurd cc) }
+
+pub returns-in-Again-clause-fits : goal.returns-in-Again-clause-fits
+returns-in-Again-clause-fits g c = λ tuple is.
+    inl (c.in_ok-told.ensures.enters ∙ ap (λ x. told_entries g.row.C c.args.ask.now x ++ c.args.self.now.replica.pass.mine) c.in-Again.is)
+
+pub returns-in_ok-admit-in-Free-clause-fits : goal.returns-in_ok-admit-in-Free-clause-fits
+returns-in_ok-admit-in-Free-clause-fits g c = λ tuple is.
+    let same : c.in-Free.tuple ≡ tuple = cc in
+    inr (subst (λ t. IsTooLongFor c.args.self.now.log c.args.ask.now t → ⊥) same c.in_ok-admit-in-Free.ensures.fits)
+
+pub returns-in_ok-admit-in-Free-clause-cause : goal.returns-in_ok-admit-in-Free-clause-cause
+returns-in_ok-admit-in-Free-clause-cause g c = record { later = c.in_ok-admit-in-Free.ensures.cause.later; failed = λ failed. absurd cc }

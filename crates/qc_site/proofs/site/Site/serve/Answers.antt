@@ -1,6 +1,8 @@
 -- That a copy was unable comes behind what was tried.
-use Rattle.std.proofs.Common.{sym, ap, ◌∙◌, subst}
-use Rattle.std.specs.Prelude.{Err, Some, is_some}
+use Rattle.std.proofs.Common.{◌≡◌, sym, ap, ◌∙◌, subst}
+use Rattle.std.specs.Prelude.{Err, Ok, Some, is_some}
+use Rattle.qc_disk.specs.Disk.{CountsOnce}
+use Rattle.qc_event.specs.declared.event.Answered.TheVariants.{Down, Full, Granted}
 use Rattle.qc_event.specs.Tables.{setting_of}
 use Rattle.qc_event.specs.Grants.{grant_with}
 use Rattle.qc_journal.specs.Journal.{disk_of, limit_of, place_of, IsTooLong}
@@ -79,6 +81,7 @@ returns-in_ok-unable-in-Err-Full-clause-full g c = λ is.
       earlier = full.earlier;
       older = older_trans full.earlier tried.replica.pass.seen new.replica.pass.seen full.older c.unable-in-Err-Full.ensures.became.seen;
       may = full.may;
+      alive = full.alive;
       given = c.unable-in-Err-Full.ensures.grants ∙ full.given;
       too_long = subst (λ l. IsTooLong (place_of (log_journal l)) (limit_of (log_journal l)) (grant_body (copies_of l) (grant_with c.args.ask.now full.tuple))) (sym still.0) full.too_long;
     }
@@ -110,3 +113,17 @@ returns-in_err-unable-in-Err-Strange-clause-became g c =
 
 pub returns-in_err-unable-in-Err-Strange-clause-seer : goal.returns-in_err-unable-in-Err-Strange-clause-seer
 returns-in_err-unable-in-Err-Strange-clause-seer g c = sees_on c.args.seer.now c.try_serve.new.seer c.unable-in-Err-Strange.new.seer c.try_serve.ensures.seer c.unable-in-Err-Strange.ensures.seer
+
+-- ROOM
+
+pub returns-in-Ok-clause-fits : goal.returns-in-Ok-clause-fits
+returns-in-Ok-clause-fits g c = λ tuple ready is.
+    let same : c.in-Ok.answered ≡ Granted tuple = cc in
+    c.try_serve.ensures.fits tuple ready (c.in-Ok.is ∙ ap (λ x. Ok x) same)
+
+pub returns-in_ok-unable-in-Err-Full-clause-counts_once : goal.returns-in_ok-unable-in-Err-Full-clause-counts_once
+returns-in_ok-unable-in-Err-Full-clause-counts_once g c =
+    let still = c.unable-in-Err-Full.ensures.still in
+    let was = c.in-Err-Full.ensures.counts_once in
+    subst (λ l. CountsOnce (g.D.Disk.view (disk_of (log_journal c.args.self.now.log))).faults (g.D.Disk.view (disk_of (log_journal l))).faults (Ok Full ≡ Ok Down)) (sym still.0)
+    (record { once = was.once; spared = λ never. was.spared (λ down. absurd cc) })

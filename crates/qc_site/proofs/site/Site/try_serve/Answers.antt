@@ -1,4 +1,4 @@
-use Rattle.std.proofs.Common.{sym, ap, ◌∙◌, subst}
+use Rattle.std.proofs.Common.{◌≡◌, ◌⊎◌, sym, ap, ◌∙◌, subst}
 use Rattle.std.specs.Prelude.{Some}
 use Rattle.qc_event.specs.Grants.{grant_with}
 use Rattle.qc_event.specs.Tables.{setting_of}
@@ -8,6 +8,7 @@ use Rattle.qc_site.specs.AtDesk.{IsGranted}
 use Rattle.qc_site.specs.Calls.{site_state}
 use Rattle.qc_site.specs.Log.{log_journal}
 use Rattle.qc_site.specs.Replica.{Standing}
+use Rattle.qc_site.specs.Sites.{IsTooLongFor}
 use Rattle.qc_site.proofs.Calls.{asks, became_on, served_on}
 use Rattle.qc_site.proofs.Logs.{cause_on, once_on}
 use Rattle.qc_site.proofs.Refusals.{disk_is_down, site_down, site_not_full, site_says}
@@ -64,3 +65,10 @@ returns-clause-cause g c = cause_on _ _ _ _ _ c.rise.ensures.cause c.grant.ensur
 
 pub returns-clause-counts_once : goal.returns-clause-counts_once
 returns-clause-counts_once g c = once_on _ _ _ _ (c.in-Ok.ensures.counts_once.spared (λ failed. absurd cc)) c.grant.ensures.counts_once
+
+pub returns-clause-fits : goal.returns-clause-fits
+returns-clause-fits g c = λ tuple ready is.
+    let idle = c.rise.ensures.idle ready in
+    let new = c.grant.new.self.replica.pass.mine in
+    subst (λ (x : Standing). (new ≡ x.pass.mine) ⊎ (IsTooLongFor c.args.self.now.log c.args.ask.now tuple → ⊥)) idle.2
+    (subst (λ l. (new ≡ c.rise.new.self.replica.pass.mine) ⊎ (IsTooLongFor l c.args.ask.now tuple → ⊥)) idle.1 (c.grant.ensures.fits tuple is))

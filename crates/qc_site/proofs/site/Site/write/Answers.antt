@@ -4,15 +4,16 @@ use Rattle.qc_event.specs.Grants.{MayGrant}
 use Rattle.qc_event.specs.History.{grants}
 use Rattle.qc_event.specs.Seats.{copy_seat}
 use Rattle.qc_event.specs.Tables.{setting_of}
-use Rattle.qc_journal.specs.Journal.{disk_of}
+use Rattle.qc_journal.specs.Journal.{IsTooLong, disk_of, limit_of, place_of}
 use Rattle.qc_ledger.proofs.Logging.{up_by}
 use Rattle.qc_desk.specs.declared.view.View.{View}
 use Rattle.qc_desk.specs.Entries.{IsOlder}
 use Rattle.qc_site.specs.Calls.{site_state, SiteState}
-use Rattle.qc_site.specs.Log.{log_journal}
+use Rattle.qc_site.specs.Back.{grant_body}
+use Rattle.qc_site.specs.Log.{copies_of, log_journal}
 use Rattle.qc_site.proofs.Calls.{wrote}
 use Rattle.qc_site.proofs.Logs.{same_over}
-use Rattle.qc_site.proofs.Refusals.{down_is_disk, fault_is_down, write_full, write_says}
+use Rattle.qc_site.proofs.Refusals.{down_is_disk, fault_is_down, write_full, write_says, write_untouched}
 use Rattle.qc_site.proofs.site.Site.write.Goals as goal
 
 pub invariant_of-self-in-Err : goal.invariant_of-self-in-Err
@@ -69,6 +70,7 @@ returns-in-Err-clause-full g c = λ failed.
       earlier = old.replica.pass.seen;
       older = subst (λ (v : View). IsOlder old.replica.pass.seen v.seen) (sym c.fall.ensures.pass) ([], refl);
       may = subst (λ o. IfSome o (MayGrant setting old.replica.pass.seen (copy_seat g.row.C) g.row.C)) c.requires.hand c.requires.may;
+      alive = c.requires.alive;
       given = ap (λ (v : View). grants v.seen g.row.C) c.fall.ensures.pass;
       too_long = write_full old.log c.write.new.self c.in-Err.fault c.of_fault.result c.args.ask.now c.args.tuple.now c.grant_of.result c.in-Err.ensures.left c.of_fault.ensures
           (λ place is. c.in-Err.ensures.full place (ap (λ x. Err x) is)) c.write.ensures.copies c.grant_of.ensures failed;
@@ -82,3 +84,14 @@ returns-in-Err-clause-counts_once g c = record {
 
 pub returns-in-Ok-clause-counts_once : goal.returns-in-Ok-clause-counts_once
 returns-in-Ok-clause-counts_once g c = record { once = c.in-Ok.ensures.counts_once.once; spared = λ never. c.in-Ok.ensures.counts_once.spared (λ failed. absurd cc) }
+
+pub returns-in-Ok-clause-fits : goal.returns-in-Ok-clause-fits
+returns-in-Ok-clause-fits g c = λ long.
+    let log = c.args.self.now.log in
+    c.in-Ok.ensures.fits (subst (λ x. IsTooLong (place_of (log_journal log)) (limit_of (log_journal log)) (grant_body (copies_of log) x)) (sym c.grant_of.ensures) long)
+
+pub returns-in-Ok-clause-cause : goal.returns-in-Ok-clause-cause
+returns-in-Ok-clause-cause g c = record { later = c.in-Ok.ensures.cause.later; failed = λ failed. absurd cc }
+
+pub returns-in-Err-clause-untouched : goal.returns-in-Err-clause-untouched
+returns-in-Err-clause-untouched g c = λ full. write_untouched c.args.self.now.log c.write.new.self c.in-Err.fault c.of_fault.result c.in-Err.ensures.left c.of_fault.ensures full

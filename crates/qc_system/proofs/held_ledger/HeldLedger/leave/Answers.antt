@@ -1,23 +1,17 @@
 -- What is kept is kept of what the pass has seen.
-use Rattle.std.proofs.Common.{◌≡◌, sym, ap, ◌∙◌, subst, arith}
-use Rattle.std.proofs.Math.Logic.{∥∥₁_elim, ∥∥₁_map}
-use Rattle.std.specs.Prelude.{IsTrue}
-use Rattle.qc_event.specs.declared.event.Why.TheVariants as why
+use Rattle.std.proofs.Common.{◌≡◌, sym, ap, ◌∙◌, subst}
+use Rattle.std.proofs.Math.Logic.{∥∥₁_map}
 use Rattle.qc_event.specs.Tables.{setting_of}
 use Rattle.qc_event.specs.Listed.{listed}
-use Rattle.qc_event.specs.Requests.{was_unable}
 use Rattle.qc_event.specs.Seats.{ledger_seat}
-use Rattle.qc_journal.specs.Journal.{IsTooLong, disk_of, limit_of, place_of}
-use Rattle.qc_ledger.specs.Entered.{told_body}
-use Rattle.qc_ledger.specs.Shelf.{journal_in}
 use Rattle.qc_ledger.specs.Since.{AreTopsBy}
 use Rattle.qc_desk.specs.Entries.{entries_of}
 use Rattle.qc_desk.specs.declared.view.View.{View}
 use Rattle.qc_system.specs.Grown.{GrownFrom}
-use Rattle.qc_system.specs.Kept.{HadNoRoom, Pays, TopsSince, downs}
+use Rattle.qc_system.specs.Kept.{HadNoRoom, NoRoomForTops, Pays, TopsSince, downs}
 use Rattle.qc_system.specs.Left.{KeepsTops}
 use Rattle.qc_system.proofs.Left.{keeps_tops}
-use Rattle.qc_system.proofs.Room.{gate_within, too_long_by, too_long_later}
+use Rattle.qc_system.proofs.Room.{no_room_by}
 use Rattle.qc_system.proofs.held_ledger.HeldLedger.leave.Goals as goal
 
 pub returns-clause-kept : goal.returns-clause-kept
@@ -39,17 +33,8 @@ returns-clause-kept g c =
           subst (λ d. GrownFrom first before (AreTopsBy (listed pass.seen) pass.seen) (g.D.Disk.view d)) disk (subst (λ (v : View). TopsSince (g.N.Mounting.told 0) before first ledger.shelf v) same k told).1);
       paid = subst (λ d. Pays first.faults (downs (entries_of ledger_seat pass.seen)) (g.D.Disk.view d).faults) disk
           (subst (λ p. Pays first.faults (downs p) (g.D.Disk.view ledger.shelf.journal.disk.disk.value).faults) (ap (λ (v : View). v.mine) same ∙ own) c.args.self.pays);
-      full = λ told top unable.
-          let journal = journal_in ledger.shelf in
-          let inside = disk_of journal in
-          let size = (g.D.Disk.view inside.disk.value).size in
-          let text = told_body (listed pass.seen) top in
-          let left : IsTooLong size g.N.Mounting.limit text = too_long_by size g.N.Mounting.limit text (λ fits.
-          ∥∥₁_elim c.args.self.full (hlevel) (λ had. ∥∥₁_elim c.args.self.keeps (hlevel) (λ k.
-          let kept = (k told).0.keeps in
-          let within = gate_within journal _ kept (g.met.D.Disk.reads_as_image inside.disk.value) (g.met.D.Disk.has_size inside.disk.value) in
-          let now = subst (λ (v : View). HadNoRoom (listed v.seen) (place_of journal) (limit_of journal) v.mine) same had in
-          let long = now top (subst (λ p. IsTrue (was_unable p top why.Full)) (sym own) unable) in
-          fits (subst (λ m. IsTooLong size m text) c.args.self.limit (too_long_later (place_of journal) size (limit_of journal) text (omega (arith, within)) long))))) in
-          subst (λ d. IsTooLong (g.D.Disk.view d).size g.N.Mounting.limit text) disk left;
+      full = λ told.
+          let f = listed pass.seen in
+          let had = ∥∥₁_map c.args.self.full (λ had. subst (λ (v : View). NoRoomForTops (g.N.Mounting.told 0) before g.N.Mounting.limit v) same had told) in
+          subst (HadNoRoom f before g.N.Mounting.limit) own (no_room_by f before g.N.Mounting.limit pass.mine had);
     }

@@ -1,8 +1,10 @@
 -- What the ledger logs its disk keeps and pays for.
-use Rattle.std.proofs.Common.{◌∙◌}
-use Rattle.std.proofs.Math.Logic.{∥∥₁_map}
+use Rattle.std.proofs.Common.{sym, ◌∙◌, subst}
+use Rattle.std.proofs.Math.Logic.{∥∥₁_elim, ∥∥₁_map}
+use Rattle.qc_event.specs.Listed.{listed}
 use Rattle.qc_journal.specs.Journal.{disk_of}
 use Rattle.qc_ledger.specs.Shelf.{journal_in}
+use Rattle.qc_system.specs.Kept.{HadNoRoom}
 use Rattle.qc_system.proofs.Grown.{left_on}
 use Rattle.qc_system.proofs.held_ledger.HeldLedger.log.Goals as goal
 
@@ -21,5 +23,7 @@ invariant_of-self g c =
       ));
       pays = c.log_listed.ensures.pays first.faults c.args.self.now.pays;
       limit = c.log_listed.ensures.limit ∙ c.args.self.now.limit;
-      full = ∥∥₁_map c.args.self.now.full c.log_listed.ensures.full;
+      full = ∥∥₁_elim c.args.self.now.keeps (hlevel) (λ k. ∥∥₁_map c.args.self.now.full (λ had told.
+          subst (λ m. HadNoRoom (listed c.log_listed.new.ledger.pass.seen) before m c.log_listed.new.ledger.pass.mine) (c.log_listed.ensures.limit ∙ c.args.self.now.limit)
+          (c.log_listed.ensures.full before (k told).0 (subst (λ m. HadNoRoom (listed old.pass.seen) before m old.pass.mine) (sym c.args.self.now.limit) (had told)))));
     }

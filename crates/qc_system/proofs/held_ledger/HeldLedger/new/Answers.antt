@@ -1,15 +1,12 @@
 -- What was found on the disk is kept, and nothing of this run.
 use Rattle.std.proofs.Common.{sym, ap, ◌∙◌, subst}
-use mathlib.Core.Bool.{true≢false}
-use Rattle.qc_event.specs.declared.event.Why.TheVariants as why
 use Rattle.qc_event.specs.Listed.{listed}
-use Rattle.qc_event.specs.Requests.{was_unable}
 use Rattle.qc_journal.specs.Journal.{limit_of}
 use Rattle.qc_ledger.specs.Entered.{KeepsLogged, tops_of}
 use Rattle.qc_ledger.specs.Since.{TopsGrow}
 use Rattle.qc_desk.specs.declared.view.View.{View}
 use Rattle.qc_system.specs.Grown.{LeftAlike}
-use Rattle.qc_system.specs.Kept.{Pays, downs}
+use Rattle.qc_system.specs.Kept.{HadNoRoom, Pays, downs}
 use Rattle.qc_system.proofs.Grown.{disk_in}
 use Rattle.qc_system.proofs.Paying.{faults_of, pays_first}
 use Rattle.qc_system.proofs.held_ledger.HeldLedger.new.Goals as goal
@@ -31,5 +28,5 @@ invariant_of-result g c =
       )) ∣₁;
       pays = subst (λ n. Pays first.faults n (faults_of ledger.shelf.journal)) (sym none) (pays_first first.faults (faults_of ledger.shelf.journal) (found.count ∙ sym (ap faults_of c.enter.ensures.journal)));
       limit = ap limit_of c.enter.ensures.journal ∙ c.requires.limit;
-      full = ∣ (λ top unable. absurd (true≢false (sym unable ∙ (ap (λ (v : View). was_unable v.mine top why.Full) c.enter.ensures.pass ∙ ap (λ p. was_unable p top why.Full) c.requires.fresh.0)))) ∣₁;
+      full = ∣ (λ tells. subst (HadNoRoom told (g.N.Mounting.before 0) g.N.Mounting.limit) (sym (ap (λ (v : View). v.mine) c.enter.ensures.pass ∙ c.requires.fresh.0)) tt) ∣₁;
     }
