@@ -8,7 +8,9 @@ program=$crate/out/qc_prog
 stamp=$crate/out/qc_prog.sources
 log=$crate/out/qc_prog.log
 lock=$crate/out/qc_prog.lock
+page=$top/viewer/index.html
 usage='usage: qc run [--dir PATH] [--serial] [--trail] < SCRIPT | qc gen N | qc audit < TRAIL'
+usage="$usage | qc view [--dir PATH] [--serial] < SCRIPT"
 
 say() { printf 'qc: %s\n' "$*" >&2; }
 
@@ -24,6 +26,8 @@ did. The program is proved before it is built: README.md says of what.
   ./qc run --dir P < SCRIPT      over the disks in the folder P, for a later run too, in either way
   ./qc run --trail < SCRIPT      writes the saved trail of the run in place of the report
   ./qc audit < TRAIL             tells whether it is legal, and the serial order of what it did
+  ./qc view < SCRIPT             runs a script, and writes a page that draws what happened in the run,
+                                 qc-view-1.html or the next that is free: open it in a browser
   ./qc gen N                     makes a script of the number N, runs it, and writes its last values
   ./qc --unproved run < SCRIPT   the same before the first build is done, unproved
   ./qc --unproved run SCRIPT ..  several scripts, each behind a line "== NAME"
@@ -77,26 +81,28 @@ take_place() {
     [ ! "$place" ] && place=$1
 }
 
-# Whether the words are a command: `run` with its options behind it, `gen` and a number, or `audit`. Behind `run`
-# an unproved call may also name scripts, whose number is told here.
+# Whether the words are a command: `run` or `view` with its options behind it, `gen` and a number, or `audit`. Behind
+# `run` an unproved call may also name scripts, whose number is told here.
 read_words() {
     place=
     serial=
     trail=
+    view=
     scripts=0
     case ${1-} in
     gen) [ $# -eq 2 ] && is_number "$2" ;;
     audit) [ $# -eq 1 ] ;;
-    run)
+    run | view)
+        [ "$1" = run ] || view=yes
         while [ $# -gt 1 ]; do
             shift
             case $1 in
             --serial) [ ! "$serial" ] && serial=yes || return 1 ;;
-            --trail) [ ! "$trail" ] && trail=yes || return 1 ;;
+            --trail) [ ! "$trail$view" ] && trail=yes || return 1 ;;
             --dir) [ $# -gt 1 ] && shift && take_place "$1" || return 1 ;;
             --dir=*) take_place "${1#--dir=}" || return 1 ;;
             -*) return 1 ;;
-            *) [ "${unproved-}" ] && [ -f "$1" ] && scripts=$((scripts + 1)) || return 1 ;;
+            *) [ "${unproved-}" ] && [ ! "$view" ] && [ -f "$1" ] && scripts=$((scripts + 1)) || return 1 ;;
             esac
         done
         ;;
@@ -291,15 +297,21 @@ gather_scripts() {
     done
 }
 
+# Makes a folder that is gone when the launcher ends.
+make_room() {
+    [ "${room-}" ] && return
+    room=$(mktemp -d) || exit 1
+    trap 'rm -rf "$room"' EXIT
+    trap 'exit 130' INT
+    trap 'exit 143' HUP TERM
+}
+
 # Runs the same program by `rt try`, which proves nothing, on the standard input or on each script that is named.
 run_unproved() {
     find_rt
     say "nothing is proved of this run: rt try builds the program anew in each call, which takes about a minute;"
     say "the run may take 60 seconds and write 1 MiB, and writes nothing before it has ended"
-    room=$(mktemp -d) || exit 1
-    trap 'rm -rf "$room"' EXIT
-    trap 'exit 130' INT
-    trap 'exit 143' HUP TERM
+    make_room
     if [ "$1" = run ]; then
         gather_scripts "$@"
         set -- run
@@ -346,13 +358,58 @@ tell_cause() {
     fi
 }
 
+run_proved() {
+    "$program" "$@"
+}
+
+# Writes the saved trail into a page, under the first name that is free here, and names it.
+write_page() {
+    number=1
+    until (set -C && : >"qc-view-$number.html") 2>/dev/null; do
+        if [ ! -e "qc-view-$number.html" ]; then
+            say "no page can be written to $PWD"
+            return 5
+        fi
+        number=$((number + 1))
+    done
+    name=qc-view-$number.html
+    if { sed '/ id="trail">$/q' "$page" && base64 <"$room/trail" && sed '1,/ id="trail">$/d' "$page"; } >"$name"; then
+        echo "$name"
+    else
+        rm -f "$name"
+        say "the page was not written"
+        return 5
+    fi
+}
+
+# Runs a script by the function that is named, and keeps its saved trail in a page. Where there is none, what the
+# program wrote is its fault.
+view() {
+    runs=$1
+    shift 2
+    make_room
+    "$runs" run --trail "$@" >"$room/trail"
+    status=$?
+    case $status in
+    0 | 8) write_page || status=$? ;;
+    *) cat "$room/trail" ;;
+    esac
+    return "$status"
+}
+
 run() {
     if [ "${unproved-}" ] && { [ "$scripts" -gt 0 ] || ! is_built; }; then
-        run_unproved "$@"
+        runs=run_unproved
     else
         [ "${unproved-}" ] && say "the proved program is built, and runs"
         until is_built; do build_once; done
-        "$program" "$@"
+        runs=run_proved
+    fi
+    if [ "$view" ]; then
+        trail=yes
+        view "$runs" "$@"
+    else
+        "$runs" "$@"
     fi
     status=$?
     # Of a script that comes through a pipe nothing is left to look at.
