@@ -182,7 +182,7 @@ tell_progress() {
 }
 
 end_build() {
-    [ "${prover-}" ] && kill "$prover" 2>/dev/null
+    [ "$prover" = none ] || kill "${prover:-$!}" 2>/dev/null
     kill "$teller" 2>/dev/null && wait "$teller" 2>/dev/null
     [ -t 2 ] && printf '\r%-78s\r' '' >&2
     rm -rf "${stage:-$log.read}"
@@ -199,13 +199,14 @@ is_kept() {
     [ "$kept" -gt "$missing" ]
 }
 
-# Waits for the prover, so that a signal ends it.
+# Waits for the prover, so that a signal ends it. Until its number is known it is the last process that was started.
 prove() {
+    prover=
     "$@" </dev/null >>"$log" 2>&1 &
     prover=$!
     wait "$prover"
     proved=$?
-    prover=
+    prover=none
     return "$proved"
 }
 
@@ -231,13 +232,14 @@ build() {
     rm -f "$program" "$stamp"
     : >"$log"
     stage=
+    prover=none
     # Started before the traps are set: a signal that met the traps of a new process would be lost.
     tell_progress &
     teller=$!
     # A second signal does not cut the end short.
-    trap 'trap "" INT HUP TERM; end_build' EXIT
-    trap 'exit 130' INT
-    trap 'exit 143' HUP TERM
+    trap end_build EXIT
+    trap 'trap "" INT HUP TERM; exit 130' INT
+    trap 'trap "" INT HUP TERM; exit 143' HUP TERM
     from=$PWD
     if is_kept; then prove_changed; else prove_all; fi
     cd "$from" || exit 1
@@ -302,8 +304,8 @@ make_room() {
     [ "${room-}" ] && return
     room=$(mktemp -d) || exit 1
     trap 'rm -rf "$room"' EXIT
-    trap 'exit 130' INT
-    trap 'exit 143' HUP TERM
+    trap 'trap "" INT HUP TERM; exit 130' INT
+    trap 'trap "" INT HUP TERM; exit 143' HUP TERM
 }
 
 # Runs the same program by `rt try`, which proves nothing, on the standard input or on each script that is named.
