@@ -1,10 +1,10 @@
 -- What stands in a history still stands in a later one.
-use Rattle.std.proofs.Common.{◌≡◌, true, false, [], ◌∷◌, ◌++◌, refl, sym, ap, ◌∙◌, subst}
+use Rattle.std.proofs.Common.{◌≡◌, Bool, true, false, List, [], ◌∷◌, ◌++◌, refl, sym, ap, ◌∙◌, subst}
 use mathlib.Core.Bool.{true≢false}
-use Rattle.std.specs.Prelude.{Option, None, Some, MatchOption}
+use Rattle.std.specs.Prelude.{Option, None, Some, MatchOption, cond, find}
 use Rattle.std.specs.Option.{option_or}
 use Rattle.qc_event.specs.Base.{Setting}
-use Rattle.qc_event.specs.Dead.{outcome, outcome_of, is_aborted, is_committed}
+use Rattle.qc_event.specs.Dead.{ancestors, dead, outcome, outcome_of, is_aborted, is_committed}
 use Rattle.qc_event.specs.History.{Past, Name, Begun, start, end, end_in}
 use Rattle.qc_event.specs.Legal.{Legal}
 use Rattle.qc_event.specs.Standing.{Started}
@@ -46,3 +46,19 @@ committed_stays e past n h = committed_first (end past n) (end_in n e.event) h
 pub committed_still : (later past : Past) (n : Name) → is_committed (outcome past n) ≡ true → is_committed (outcome (later ++ past) n) ≡ true
 committed_still [] past n h = h
 committed_still (e ∷ later) past n h = committed_stays e (later ++ past) n (committed_still later past n h)
+
+-- who lives has lived before
+pub alive_before : (later past : Past) (n : Name) → dead (later ++ past) n ≡ None → dead past n ≡ None
+alive_before later past n = none_found (ancestors n)
+  where
+    before : (a : Name) → is_aborted (outcome (later ++ past) a) ≡ false → is_aborted (outcome past a) ≡ false
+    before a h = aborted_first (end past a) _ (sym (ap (λ o. is_aborted (outcome_of o)) (earliest-append _ later past)) ∙ h)
+
+    by_tests : (a : Name) (rest known : Option Name) (b c : Bool) → (b ≡ false → c ≡ false) → (rest ≡ None → known ≡ None) → cond b (Some a) rest ≡ None → cond c (Some a) known ≡ None
+    by_tests a rest known true c step more none = absurd cc
+    by_tests a rest known false true step more none = absurd (true≢false (step refl))
+    by_tests a rest known false false step more none = more none
+
+    none_found : (ns : List Name) → find (λ a. is_aborted (outcome (later ++ past) a)) ns ≡ None → find (λ a. is_aborted (outcome past a)) ns ≡ None
+    none_found [] none = refl
+    none_found (a ∷ ns) none = by_tests a _ _ (is_aborted (outcome (later ++ past) a)) (is_aborted (outcome past a)) (before a) (none_found ns) none

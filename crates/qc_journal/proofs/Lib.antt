@@ -1,6 +1,6 @@
 pub mod Moments
 pub mod Images
-mod Appends
+pub mod Appends
 mod Reopens
 pub mod Readings
 mod Growing

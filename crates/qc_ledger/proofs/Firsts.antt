@@ -14,7 +14,7 @@ use Rattle.qc_codec.specs.declared.past.Past.{Past}
 use Rattle.qc_codec.specs.declared.record.Made.{Made}
 use Rattle.qc_codec.specs.declared.record.LedgerRecord.{LedgerRecord}
 use Rattle.qc_codec.specs.declared.record.LedgerRecord.TheVariants as ledger_record
-use Rattle.qc_codec.proofs.Bodies.{exact_ledger}
+use Rattle.qc_codec.proofs.Bodies.{exact_ledger, made_fits_ledger}
 use Rattle.qc_codec.proofs.Exact.{all_again}
 use Rattle.qc_codec.proofs.Order.{each_none, each_push}
 use Rattle.qc_event.specs.declared.short.Short.TheVariants.{Memory, Room}
@@ -33,15 +33,11 @@ use Rattle.qc_ledger.proofs.Told.{by_stands, past_push, stands_by}
 pub made_whole : (m : Made) → m.who ≡ 0 → made_for 0 m.table ≡ m
 made_whole m is = ap (λ n. made_for n m.table) (sym is)
 
-ledger_fits : (m : Made) → body.made.fits m → body.ledger.fits (ledger_record.Made m)
-unfolding body.made body.ledger
-ledger_fits m fits = fits
-
 -- a made record is read from its body
 pub made_again : (m : Made) → body.made.fits m → m.who ≡ 0 → all_of body.ledger (made_body m.table) ≡ Some (ledger_record.Made m)
 made_again m fits is =
     ap (λ (x : Made). all_of body.ledger (body.ledger.spell (ledger_record.Made x))) (made_whole m is)
-    ∙ all_again body.ledger exact_ledger (ledger_record.Made m) (ledger_fits m fits)
+    ∙ all_again body.ledger exact_ledger (ledger_record.Made m) (made_fits_ledger m fits)
 
 -- FAULTS
 

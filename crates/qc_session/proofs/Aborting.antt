@@ -24,7 +24,6 @@ use Rattle.qc_carry.proofs.Walking as walking
 use Rattle.qc_event.proofs.Lawful.{started_wider}
 use Rattle.qc_event.proofs.Later.{started_still}
 use Rattle.qc_event.proofs.Outcomes.{aborted_is_abort}
-use Rattle.qc_desk.proofs.Granting.{dead_stays}
 use Rattle.qc_managers.specs.Carrying.{entry}
 use Rattle.qc_desk.specs.declared.refusal.DeskNo.{DeskNo}
 use Rattle.qc_desk.specs.declared.view.View.{View}
@@ -182,13 +181,6 @@ all_unfounded_on v u w n why (Err e) first h = unfounded_on v u w n why e first 
 pub all_ended_on : (v u w : View) (ev : Event) (r : Result (Unit {0}) TxNo) → Walk v u [] → OnOk r (Walk u w (entry u.number ev ∷ [])) → OnOk r (Walk v w (entry v.number ev ∷ []))
 all_ended_on v u w ev (Ok x) first walk = subst (λ s. Walk v w (entry s ev ∷ [])) first.number (walking.walk_on v u w [] _ first walk)
 all_ended_on v u w ev (Err e) first walk = tt
-
-pub alive_before : (newer past : Past) (n : Name) → dead (newer ++ past) n ≡ None → dead past n ≡ None
-alive_before newer past n alive = by_found (dead past n) refl
-  where
-    by_found : (o : Option Name) → dead past n ≡ o → dead past n ≡ None
-    by_found None at = at
-    by_found (Some a) at = absurd (true≢false (sym (dead_stays newer past n (ap is_some at)) ∙ ap is_some alive))
 
 pub on_any : (r : Result (Unit {0}) TxNo) (fact : Type 0) → fact → OnOk r fact
 on_any (Ok x) fact is = is

@@ -20,12 +20,13 @@ use Rattle.qc_event.specs.Requests.{MayBeUnable, is_why, unable_in, was_unable}
 use Rattle.qc_event.specs.Seats.{copy_seat, ledger_seat}
 use Rattle.qc_event.proofs.Absent.{same_is, same_itself}
 use Rattle.qc_event.proofs.StillTold.{some_stays}
-use Rattle.qc_journal.specs.Image.{EndsAt, row}
-use Rattle.qc_journal.specs.Journal.{IsTooLong, IsUp, ImageStands, Keeps, disk_of, place_of}
-use Rattle.qc_journal.specs.State.{IsUpState, hand_of}
+use Rattle.qc_journal.specs.Image.{row}
+use Rattle.qc_journal.specs.Journal.{IsTooLong, IsUp, Keeps, disk_of, place_of}
+use Rattle.qc_journal.specs.State.{IsUpState}
 use Rattle.qc_journal.specs.declared.journal.Journal.{Journal}
 use Rattle.qc_journal.specs.declared.journal.State.{State}
 use Rattle.qc_journal.specs.declared.journal.State.TheVariants as state
+use Rattle.qc_journal.proofs.Appends.{ends_up}
 use Rattle.qc_ledger.specs.Entered.{CommitsHand, EntersTop, KeepsLogged, RefusalEnters, commits_of, pending_by, told_body, tops_of}
 use Rattle.qc_ledger.specs.Shelf.{IsIdle, journal_in, top_body, top_in}
 use Rattle.qc_ledger.specs.declared.fault.LedgerNo.{LedgerNo}
@@ -50,16 +51,12 @@ too_long_by place most body never = elim (cases_lt most (place + 6 + length body
 
 -- WHERE A RECORD GOES
 
-stands_ends : (place : ℕ) (bodies : List (List ℕ)) (s : State) (image : List ℕ) → IsUpState s → ImageStands place bodies (hand_of s) image → EndsAt place bodies image
-stands_ends place bodies (state.Up missing) image up ends = ends
-stands_ends place bodies (state.Down held) image up ends = absurd up
-
 -- where a journal that is up tells its bytes, its next record goes behind those that it keeps
 pub place_is : {D : Type 0} {g : Ghosts D} (journal : Journal D g) (bodies : List (List ℕ)) → Keeps journal bodies → IsUp journal → IsImage (g.view (disk_of journal)).content (g.view (disk_of journal)).may_leave
     → place_of journal ≡ length (row bodies)
 place_is {D} {g} journal bodies k up here =
     let left : (g.view (disk_of journal)).may_leave k.bytes = subst (λ o. IsImage o (g.view (disk_of journal)).may_leave) k.told here in
-    (stands_ends (place_of journal) bodies journal.state k.bytes up (k.each k.bytes left)).size
+    (ends_up (place_of journal) bodies journal.state k.bytes up (k.each k.bytes left)).size
 
 none_pending : (s : State) (hand : Option Name) → IsUpState s → hand ≡ None → pending_by s hand ≡ []
 none_pending (state.Up missing) hand up none = ap (pending_by (state.Up missing)) none

@@ -2,7 +2,6 @@
 -- there, and tells no configuration of generation 0 but the first.
 use Rattle.std.proofs.Common.{◌≡◌, ℕ, ◌<◌, ◌≤◌, ◌==◌, ◌&&◌, Bool, true, false, List, [], ◌∷◌, ◌++◌, length, refl, sym, ap, ◌∙◌, subst, inl, inr, ◌⊎◌, arith, map, get_or}
 use Rattle.std.specs.Prelude.{Option, None, Some, is_some, is_none, MatchOption, filter, cond, nat_lt, option_to_list, if◌then◌else◌}
-use Rattle.std.specs.Option.{option_or}
 use Rattle.std.proofs.lemmas.Bool.{ltb-false, leb-true}
 use Rattle.std.proofs.lemmas.List.{get_or_past}
 use Rattle.std.proofs.lemmas.Option.{same_Some}
@@ -20,7 +19,7 @@ use Rattle.qc_event.specs.declared.event.Grant.{Grant}
 use Rattle.qc_event.specs.declared.event.Kind.{Kind}
 use Rattle.qc_event.specs.declared.event.Kind.TheVariants as kind
 use Rattle.qc_event.specs.Base.{Setting, first_of, no_tuple, start_tuple}
-use Rattle.qc_event.specs.Dead.{dead, outcome, is_aborted}
+use Rattle.qc_event.specs.Dead.{dead}
 use Rattle.qc_event.specs.History.{Past, Name, Begun, Given, Asked, same, start, end, asked, ask_in, ask_below, granted, grants, is_child}
 use Rattle.qc_event.specs.Legal.{Legal}
 use Rattle.qc_event.specs.Manager.{Newest, Greatest, newer, record_of, first_for, all_copies}
@@ -28,13 +27,11 @@ use Rattle.qc_event.specs.Requests.{MayAsk}
 use Rattle.qc_event.specs.Seen.{is_live_at, changed_by}
 use Rattle.qc_event.specs.Standing.{IsManager}
 use Rattle.qc_event.proofs.Absent.{same_is}
-use Rattle.qc_event.proofs.LastNumber.{EndsIn, ends_in, front_last, is_child-last, by_last}
+use Rattle.qc_event.proofs.LastNumber.{EndsIn, ends_in, front_last, is_child-last}
 use Rattle.qc_event.proofs.Lawful.{Lawful, lawful}
 use Rattle.qc_event.proofs.LegalOrderly.{legal_orderly}
-use Rattle.qc_event.proofs.Lineage.{dead_last, dead_parent, alive_not_aborted}
 use Rattle.qc_event.proofs.OneEntry.{if_is}
 use Rattle.qc_event.proofs.Orderly.{Belongs}
-use Rattle.qc_event.proofs.Later.{aborted_first}
 use Rattle.qc_event.proofs.Sizes.{AllSized, newest_sized}
 use Rattle.qc_serial.specs.Visible.{served}
 use Rattle.qc_refine.specs.Given.{tuples_of, marks_of}
@@ -130,27 +127,6 @@ pub no_place : (setting : Setting) (copy : ℕ) (op : Op) → 0 < length setting
 no_place setting copy Get some out fits sized = omega arith
 no_place setting copy (PutData version value) some out fits sized = omega arith
 no_place setting copy (PutConfig generation config) some out fits sized = let there = fits.1 in omega arith
-
--- WHO LIVES
-
--- who lives has lived before
-pub alive_before : (e : Entry) (past : Past) (n : Name) → dead (e ∷ past) n ≡ None → dead past n ≡ None
-alive_before e past n = by_last (λ m. dead (e ∷ past) m ≡ None → dead past m ≡ None) root one_lower n
-  where
-    before : (m : Name) → dead (e ∷ past) m ≡ None → is_aborted (outcome past m) ≡ false
-    before m alive = aborted_first (end past m) _ (alive_not_aborted (e ∷ past) m alive)
-
-    none_if : (b : Bool) (m : Name) → b ≡ false → (if b then Some m else None) ≡ None
-    none_if b m is = ap (λ c. if c then Some m else None) is
-
-    root : dead (e ∷ past) [] ≡ None → dead past [] ≡ None
-    root alive = none_if (is_aborted (outcome past [])) [] (before [] alive)
-
-    one_lower : (p : Name) (j : ℕ) → (dead (e ∷ past) p ≡ None → dead past p ≡ None) → dead (e ∷ past) (p ++ j ∷ []) ≡ None → dead past (p ++ j ∷ []) ≡ None
-    one_lower p j above alive =
-        dead_last past p j
-        ∙ ap (λ o. option_or o (if is_aborted (outcome past (p ++ j ∷ [])) then Some (p ++ j ∷ []) else None)) (above (dead_parent (e ∷ past) p j alive))
-        ∙ none_if (is_aborted (outcome past (p ++ j ∷ []))) (p ++ j ∷ []) (before (p ++ j ∷ []) alive)
 
 -- WHAT A COPY HOLDS
 

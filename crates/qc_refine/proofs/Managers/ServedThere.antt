@@ -23,6 +23,7 @@ use Rattle.qc_event.specs.Manager.{Stage, record_of, first_for, phase_of, is_pha
 use Rattle.qc_event.specs.Seen.{seen}
 use Rattle.qc_event.specs.Standing.{IsManager}
 use Rattle.qc_event.proofs.KindFits.{kind_fits, record_fits}
+use Rattle.qc_event.proofs.Later.{alive_before}
 use Rattle.qc_event.proofs.LastNumber.{length_last, child_last, child_front}
 use Rattle.qc_event.proofs.LegalOrderly.{legal_orderly}
 use Rattle.qc_event.proofs.OneEntry.{first_is, if_is}
@@ -36,7 +37,7 @@ use Rattle.qc_refine.proofs.Managers.Delivers.{Delivers, ask_of, delivers_or_not
 use Rattle.qc_refine.proofs.Managers.Finished.{is_started}
 use Rattle.qc_refine.proofs.Order.Grounded.{OfFirst, IsGrounded}
 use Rattle.qc_refine.proofs.Managers.KindsBelow.{HasKind, kind_before}
-use Rattle.qc_refine.proofs.Managers.LiveGrants.{Every, every_more, every_weaker, every_option, newest_known, some_got, AskFits, new_generation, put_fits, move_fits, after_first, no_place, alive_before, LiveAt, seen_first, seen_none, nothing_there, IsThere, Kept, IsAskedBy, asking, asked_by}
+use Rattle.qc_refine.proofs.Managers.LiveGrants.{Every, every_more, every_weaker, every_option, newest_known, some_got, AskFits, new_generation, put_fits, move_fits, after_first, no_place, LiveAt, seen_first, seen_none, nothing_there, IsThere, Kept, IsAskedBy, asking, asked_by}
 use Rattle.qc_refine.proofs.Managers.ServedAsked.{served_more, served_same}
 use Rattle.qc_refine.proofs.Managers.Shapes.{marks_in}
 use Rattle.qc_refine.proofs.Managers.Stages.{newest_among, IsMoving}
@@ -153,18 +154,18 @@ module _ (setting : Setting) (ground : IsGrounded setting) (past : Past) (e : En
 
   live : (copy : ℕ) → Every (LiveAt setting (e ∷ past) copy) (grants (e ∷ past) copy)
   live copy = every_more (LiveAt setting (e ∷ past) copy) (grants past copy) _
-      (every_weaker (LiveAt setting past copy) (LiveAt setting (e ∷ past) copy) (grants past copy) (λ g had alive. had (alive_before e past g.access alive)) (kept.live copy))
+      (every_weaker (LiveAt setting past copy) (LiveAt setting (e ∷ past) copy) (grants past copy) (λ g had alive. had (alive_before (e ∷ []) past g.access alive)) (kept.live copy))
       (every_option (LiveAt setting (e ∷ past) copy) (grant_at copy e.event) new_live)
     where
       new_live : (g : Grant) → grant_at copy e.event ≡ Some g → LiveAt setting (e ∷ past) copy g
       new_live g at alive =
           let is = granting_at copy e.event g at in
-          ((new_good copy g is (alive_before e past g.access alive)).0, new_generation setting copy g.op (requested copy g (may_grant copy g is)).1)
+          ((new_good copy g is (alive_before (e ∷ []) past g.access alive)).0, new_generation setting copy g.op (requested copy g (may_grant copy g is)).1)
 
   good : (n : Name) (g : Given) → granted (e ∷ past) n ≡ Some g → dead (e ∷ past) n ≡ None → (g.copy < length setting.base) × OfFirst (first_of setting g.grant.rec) g.grant.tuple
   good n g is alive = elim (granted_step e past n g is) [
-    | inl old ↦ kept.good n g old (alive_before e past n alive)
-    | inr new ↦ new_good g.copy g.grant new.0 (subst (λ x. dead past x ≡ None) (sym new.1) (alive_before e past n alive))
+    | inl old ↦ kept.good n g old (alive_before (e ∷ []) past n alive)
+    | inr new ↦ new_good g.copy g.grant new.0 (subst (λ x. dead past x ≡ None) (sym new.1) (alive_before (e ∷ []) past n alive))
   ]
 
   -- WHAT MANAGERS WERE GIVEN

@@ -22,9 +22,9 @@ use Rattle.qc_event.proofs.LastNumber.{EndsIn, ends_in, by_last, is_ancestor-app
 use Rattle.qc_event.proofs.OneEntry.{Starting, some_or_none, start_step, end_step, end_stays, ready_step, marking}
 use Rattle.qc_event.proofs.Orderly.{Orderly, KeepsOrder, BecomesReady}
 use Rattle.qc_event.proofs.Lawful.{Lawful, lawful, ChildStart, child_starts, no_open_child, parent_started}
+use Rattle.qc_event.proofs.Later.{alive_before}
 use Rattle.qc_event.proofs.Lineage.{dead_parent, alive_not_aborted}
 use Rattle.qc_event.specs.Listed.{aborted_in, aborted_below, listed}
-use Rattle.qc_refine.proofs.Managers.LiveGrants.{alive_before}
 
 -- ENDS THAT STAY
 
@@ -112,7 +112,7 @@ module _ (e : Entry) (past : Past) (t : Name) (law : Lawful past) (keeps : Keeps
   becomes_settled now r j alive h =
       let ready : BecomesReady past t = subst (KeepsOrder past) now keeps in
       let n : Name = (t ++ r) ++ j ∷ [] in
-      let lived = alive_before e past (t ++ r) alive in
+      let lived = alive_before (e ∷ []) past (t ++ r) alive in
       let began : is_some (start past ((t ++ r) ++ j ∷ [])) ≡ true = elim (start_step e past ((t ++ r) ++ j ∷ []) h) [
         | inl old ↦ old
         | inr new ↦ absurd (let both : event.Start ((t ++ r) ++ j ∷ []) new.1.0 ≡ event.Ready t = sym new.1.1 ∙ now in cc)
@@ -147,13 +147,13 @@ module _ (e : Entry) (past : Past) (t : Name) (law : Lawful past) (keeps : Keeps
   pub stays_settled : is_ready past t ≡ true → IsSettledBelow past t → IsSettledBelow (e ∷ past) t
   stays_settled ready settled r j alive h = elim (start_step e past ((t ++ r) ++ j ∷ []) h) [
     | inl began ↦
-        let was = settled r j (alive_before e past (t ++ r) alive) began in (
+        let was = settled r j (alive_before (e ∷ []) past (t ++ r) alive) began in (
           end_stays e past ((t ++ r) ++ j ∷ []) was.0,
           λ aborted.
               subst (λ l. Contains l ((t ++ r) ++ j ∷ [])) (sym (not_again ready))
               (was.1 (sym (ap (λ o. is_aborted (outcome_of o)) (same_end e past ((t ++ r) ++ j ∷ []) was.0)) ∙ aborted)),
         )
-    | inr new ↦ absurd (no_more ready settled r j (alive_before e past (t ++ r) alive) new.1)
+    | inr new ↦ absurd (no_more ready settled r j (alive_before (e ∷ []) past (t ++ r) alive) new.1)
   ]
 
 pub settled_below : (past : Past) (t : Name) → Orderly past → 0 < length t → is_ready past t ≡ true → IsSettledBelow past t

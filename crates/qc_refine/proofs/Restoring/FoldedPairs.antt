@@ -27,11 +27,12 @@ use Rattle.qc_event.specs.declared.event.Kind.TheVariants as kind
 use Rattle.qc_event.specs.Commits.{MayCommit}
 use Rattle.qc_event.specs.Sound.{IsSound}
 use Rattle.qc_event.proofs.LastNumber.{rest_of}
-use Rattle.qc_event.proofs.Later.{committed_still, earlier_legal, start_still}
+use Rattle.qc_event.proofs.Later.{alive_before, committed_still, earlier_legal}
 use Rattle.qc_event.proofs.Lawful.{no_open_child, some_how}
 use Rattle.qc_event.proofs.Lineage.{alive_above, alive_not_aborted}
 use Rattle.qc_event.proofs.OneEntry.{end_stays, end_step, some_or_none, start_stays, start_step}
 use Rattle.qc_event.proofs.RootAndTops.{root_alive}
+use Rattle.qc_event.proofs.StillTold.{begun_still}
 use Rattle.qc_serial.specs.Serial.{final_values}
 use Rattle.qc_serial.specs.Visible.{is_visible, left_at, served_order}
 use Rattle.qc_serial.proofs.MossNames.{two_ways}
@@ -46,7 +47,6 @@ use Rattle.qc_refine.proofs.Restoring.BelowReady.{committed_or}
 use Rattle.qc_refine.proofs.Order.ForGood.{root_sees}
 use Rattle.qc_refine.proofs.Copies.Grids.{grid, grids_agree}
 use Rattle.qc_refine.proofs.Order.KeptForGood.{NoneAbove, good_above, good_committed, is_good_below, none_listed}
-use Rattle.qc_refine.proofs.Managers.LiveGrants.{alive_before}
 use Rattle.qc_refine.proofs.Restoring.LoggedTops.{WasAborted, listed_aborted, top_user}
 use Rattle.qc_refine.proofs.Restoring.RestoredSound.{each, restored_sound}
 use Rattle.qc_refine.proofs.Restoring.RestoredTuples.{HasAsked, IsBelow, below_top, filter_same, grants_asked}
@@ -164,18 +164,6 @@ good_still newer past n = all_still (drop 1 (ancestors n))
         let both = and_parts (is_committed (outcome past a)) _ all in
         and_from _ _ (committed_still newer past a both.0) (all_still ns both.1)
 
-begun_still : (newer past : Past) (n : Name) → is_some (start past n) ≡ true → is_some (start (newer ++ past) n) ≡ true
-begun_still newer past n = by_start (start past n) refl
-  where
-    by_start : (o : Option Begun) → start past n ≡ o → is_some o ≡ true → is_some (start (newer ++ past) n) ≡ true
-    by_start None is began = absurd (true≢false (sym began))
-    by_start (Some b) is began = ap (λ (q : Option Begun). is_some q) (start_still newer past n b is)
-
--- who lives has lived before
-lived : (newer past : Past) (n : Name) → dead (newer ++ past) n ≡ None → dead past n ≡ None
-lived [] past n alive = alive
-lived (e ∷ newer) past n alive = lived newer past n (alive_before e (newer ++ past) n alive)
-
 -- what a copy held once each top had its end it holds while it grants nothing more
 pub seen_still : (setting : Setting) (newer past : Past) (copy rec : ℕ) → Legal setting (newer ++ past) → HasEnded past → grants (newer ++ past) copy ≡ grants past copy
     → seen setting.base (newer ++ past) copy rec ≡ seen setting.base past copy rec
@@ -193,7 +181,7 @@ seen_still setting newer past copy rec legal ended no_more =
       where
         by_top : IsBelow past a → is_none (dead (newer ++ past) a) ≡ is_none (dead past a)
         by_top b = two_ways _ _
-            (λ lives. is_none_of _ (lived newer past a (none_is (dead (newer ++ past) a) lives)))
+            (λ lives. is_none_of _ (alive_before newer past a (none_is (dead (newer ++ past) a) lives)))
             (λ lives.
             let good : is_for_good past (b.number ∷ b.rest) ≡ true = ap (is_for_good past) (sym b.is) ∙ sym (lives_for_good setting past before ended a asks) ∙ lives in
             ap (λ n. is_none (dead (newer ++ past) n)) b.is ∙ good_lives setting (newer ++ past) b.number b.rest legal (begun_still newer past (b.number ∷ b.rest) b.started) (good_still newer past (b.number ∷ b.rest) good))

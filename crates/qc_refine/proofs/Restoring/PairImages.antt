@@ -16,7 +16,7 @@ use Rattle.qc_codec.specs.declared.record.BaseRecord.{BaseRecord}
 use Rattle.qc_codec.specs.declared.record.LedgerRecord.{LedgerRecord}
 use Rattle.qc_codec.specs.declared.record.LedgerRecord.TheVariants as ledger_record
 use Rattle.qc_codec.specs.declared.record.Made.{Made}
-use Rattle.qc_codec.proofs.Bodies.{exact_base, exact_grant, exact_ledger, exact_made}
+use Rattle.qc_codec.proofs.Bodies.{exact_base, exact_grant, exact_ledger, exact_made, made_fits_ledger}
 use Rattle.qc_codec.proofs.Exact.{all_again}
 use Rattle.qc_config.specs.declared.tuple.Tuple.{Tuple}
 use Rattle.qc_event.specs.declared.event.Grant.{Grant}
@@ -61,10 +61,6 @@ grant_no_base table g = refl
 made_spelled : (made : Made) → body.ledger.spell (ledger_record.Made made) ≡ body.made.spell made
 unfolding body.made body.ledger
 made_spelled made = refl
-
-made_fits_ledger : (made : Made) → body.made.fits made → body.ledger.fits (ledger_record.Made made)
-unfolding body.made body.ledger
-made_fits_ledger made fits = fits
 
 -- it tells no top
 made_no_top : (made : Made) (bodies : List (List ℕ)) → body.made.fits made → filter_map logged_in (readings body.ledger (body.made.spell made ∷ bodies)) ≡ filter_map logged_in (readings body.ledger bodies)

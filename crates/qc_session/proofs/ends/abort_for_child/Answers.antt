@@ -1,13 +1,13 @@
 -- Whether an ancestor is aborted is looked at before the transaction is aborted for a child.
 use Rattle.qc_carry.proofs.Walking.{of_shown}
-use Rattle.qc_event.proofs.Later.{started_still}
+use Rattle.qc_event.proofs.Later.{alive_before, started_still}
 use Rattle.qc_event.specs.Dead.{dead}
 use Rattle.qc_event.specs.Standing.{IsUser, Started}
 use Rattle.qc_event.specs.Tables.{setting_of}
 use Rattle.qc_event.specs.declared.event.Cause.TheVariants as cause
 use Rattle.qc_event.specs.declared.event.Event.TheVariants as event
 use Rattle.qc_event.specs.declared.event.How.TheVariants.{Abort as Aborts}
-use Rattle.qc_session.proofs.Aborting.{all_ended_on, all_unfounded_on, alive_before, on_any}
+use Rattle.qc_session.proofs.Aborting.{all_ended_on, all_unfounded_on, on_any}
 use Rattle.qc_session.proofs.Refused.{dead_refuses}
 use Rattle.std.proofs.Common.{◌≡◌, sym, ◌∙◌, subst}
 use Rattle.std.specs.Prelude.{None}
