@@ -6,6 +6,7 @@ use Rattle.qc_event.specs.Dead.{dead, outcome, is_live, is_committed}
 use Rattle.qc_event.specs.History.{Past, Name, is_ready}
 use Rattle.qc_event.specs.Wants.{IsWant}
 use Rattle.qc_event.specs.declared.short.Short.{Short}
+use Rattle.qc_event.proofs.Wanting.{want_of}
 use Rattle.qc_desk.specs.declared.refusal.DeskNo.{DeskNo}
 use Rattle.qc_desk.specs.declared.refusal.DeskNo.TheVariants as no
 use Rattle.qc_desk.specs.declared.view.View.{View}
@@ -36,7 +37,7 @@ child_dead past m a (inr want) = absurd want.1
 
 pub child_want : (past : Past) (m : Name) (s : Short) → Refuses (against_child m) past (no.Short s) → IsWant past s
 child_want past m s (inl told) = absurd (child_short (is_committed (outcome past m)) (dead past m) (is_ready past m) s told)
-child_want past m s (inr want) = want.1
+child_want past m s (inr want) = want_of past s want.1
 
 -- an access is refused as an orphan where it is dead
 access_orphan : (o : Option Name) (a : Name) → option_map (λ x. no.Orphan x) o ≡ Some (no.Orphan a) → o ≡ Some a
@@ -53,7 +54,7 @@ access_dead past n a (inr want) = absurd want.1
 
 pub access_want : (past : Past) (n : Name) (s : Short) → Refuses (against_access n) past (no.Short s) → IsWant past s
 access_want past n s (inl told) = absurd (access_short (dead past n) s told)
-access_want past n s (inr want) = want.1
+access_want past n s (inr want) = want_of past s want.1
 
 -- WHAT IS NOT REFUSED BUT FOR MEMORY AND ROOM
 
@@ -71,7 +72,7 @@ pub abort_short : (n : Name) (v w : View) (why : DeskNo) → Refused (against_ab
 abort_short n v w (no.Orphan a) (l, inl told) = absurd (abort_orphan (is_live (outcome w.seen n)) (is_ready w.seen n) a told)
 abort_short n v w (no.Orphan a) (l, inr want) = absurd want.1
 abort_short n v w (no.Short s) (l, inl told) = absurd (abort_wants (is_live (outcome w.seen n)) (is_ready w.seen n) s told)
-abort_short n v w (no.Short s) (l, inr want) = (walking.of_looked v w l, want.1)
+abort_short n v w (no.Short s) (l, inr want) = (walking.of_looked v w l, want_of w.seen s want.1)
 abort_short n v w no.Ended (l, h) = (walking.of_looked v w l, tt)
 abort_short n v w no.Ready (l, h) = (walking.of_looked v w l, tt)
 abort_short n v w (no.ChildrenOpen c) (l, h) = (walking.of_looked v w l, tt)

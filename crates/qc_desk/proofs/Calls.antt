@@ -7,7 +7,7 @@ use Rattle.qc_event.specs.declared.event.Event.{Event}
 use Rattle.qc_event.specs.History.{Past, limit}
 use Rattle.qc_event.specs.Legal.{Allowed}
 use Rattle.qc_event.specs.Seats.{is_client}
-use Rattle.qc_event.specs.Wants.{IsWant}
+use Rattle.qc_event.specs.Wants.{IsExactWant}
 use Rattle.qc_desk.specs.declared.refusal.DeskNo.{DeskNo}
 use Rattle.qc_event.specs.declared.short.Short.{Short}
 use Rattle.qc_event.specs.declared.short.Short.TheVariants as short
@@ -26,10 +26,10 @@ client v c = by_number v.number c.1
     by_number (suc n) h = or_right (suc n == 0) (nat_lt 17 (suc n)) (lt-ltb 17 (suc n) (h (omega arith)))
 
 -- why nothing was appended, where nothing was against it
-pub wants : (past : Past) (r : Result (Unit {0}) Short) → (IsErrOf r short.Room → length past ≡ limit) → IfErr r (IsWant past)
-wants past (Ok u) room = tt
-wants past (Err short.Memory) room = tt
-wants past (Err short.Room) room = room refl
+pub wants : (past : Past) (r : Result (Unit {0}) Short) → (IsErrOf r short.Room → length past ≡ limit) → (length past ≡ limit → IsErrOf r short.Room) → IfErr r (IsExactWant past)
+wants past (Ok u) room full = tt
+wants past (Err short.Memory) room full = λ is. absurd (let never = full is in cc)
+wants past (Err short.Room) room full = room refl
 
 -- what holds of a history and a number still does after a look
 pub at_look : (P : Past → ℕ → Type 0) (past now : Past) (v w : View) → IsLook past now v w → P past v.number → P now w.number

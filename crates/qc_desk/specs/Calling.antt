@@ -7,7 +7,7 @@ use Rattle.qc_event.specs.declared.event.Kind.{Kind}
 use Rattle.qc_event.specs.declared.event.Kind.TheVariants as kind
 use Rattle.qc_event.specs.History.{Past, Name, children}
 use Rattle.qc_event.specs.Seats.{top_name}
-use Rattle.qc_event.specs.Wants.{IsWant}
+use Rattle.qc_event.specs.Wants.{IsExactWant}
 use Rattle.qc_event.specs.declared.short.Short.{Short}
 use Rattle.qc_desk.specs.declared.view.View.{View}
 use Rattle.qc_desk.specs.Entries.{IsOlder, IsSince, entry}
@@ -51,9 +51,9 @@ StartsChild parent k n = EnteredAs (against_child parent) (λ past ev. (n ≡ pa
 abbrev pub Refused : (Past → Option DeskNo) → View → View → DeskNo → Type 0
 Refused against v w why = Looked v w × Refuses against w.seen why
 
--- the pass has looked, and entered nothing, since memory or room was wanting
+-- the pass has looked, and entered nothing, since memory or room was wanting, memory only while the history took more
 abbrev pub Wanted : View → View → Short → Type 0
-Wanted v w short = Looked v w × IsWant w.seen short
+Wanted v w short = Looked v w × IsExactWant w.seen short
 
 -- a pass or a note was shown a history; where it is no note, others made what is new
 abbrev pub Shown : View → View → Type 0

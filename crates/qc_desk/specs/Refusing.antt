@@ -4,7 +4,7 @@ use Rattle.std.specs.Option.{option_or, option_map}
 use Rattle.qc_event.specs.Dead.{dead, outcome, is_live, is_committed}
 use Rattle.qc_event.specs.History.{Past, Name, is_ready}
 use Rattle.qc_event.specs.Standing.{open_child}
-use Rattle.qc_event.specs.Wants.{IsWant}
+use Rattle.qc_event.specs.Wants.{IsExactWant}
 use Rattle.qc_desk.specs.declared.refusal.DeskNo.{DeskNo}
 use Rattle.qc_desk.specs.declared.refusal.DeskNo.TheVariants as no
 
@@ -56,9 +56,9 @@ against_access n past = if_dead past n
 abbrev pub against_nothing : Past → Option DeskNo
 against_nothing past = None
 
--- memory or room was wanting
+-- memory or room was wanting, memory only while the history took more
 abbrev pub IsShort : Past → DeskNo → Type 0
-IsShort past (no.Short short) = IsWant past short
+IsShort past (no.Short short) = IsExactWant past short
 IsShort past _ = ⊥
 
 -- Why nothing was appended: this test failed first, or none did and memory or room was wanting.

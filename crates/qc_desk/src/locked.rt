@@ -3,7 +3,7 @@ ghost use Rattle.std.specs.Prelude.{◌≡◌, ◌≤◌, List, [], ◌∷◌, �
 ghost use Rattle.qc_event.specs.Tables.{setting_of};
 ghost use Rattle.qc_event.specs.History.{limit};
 ghost use Rattle.qc_event.specs.Legal.{Legal, Allowed};
-ghost use Rattle.qc_event.specs.Wants.{IsWant};
+ghost use Rattle.qc_event.specs.Wants.{IsExactWant};
 ghost use Rattle.qc_desk.specs.Calling.{IsRoomOf, IsLook, IsEntry};
 ghost use Rattle.qc_desk.specs.Entries.{AreCounted, IsLegal, IsOlder, IsSince, entry, entries_of};
 ghost use Rattle.qc_desk.specs.Known.{IsDeskHistory, IsKnown};
@@ -62,7 +62,7 @@ impl<N: Store> Locked<N> {
             AreCounted (entry pass.old.number event ∷ self.old) }
         ensures ok { OnOk result (IsEntry event self.old self.new pass.old pass.new) }
         ensures err { OnErr result (IsLook self.old self.new pass.old pass.new) }
-        ensures want { IfErr result (IsWant self.old) }
+        ensures want { IfErr result (IsExactWant self.old) }
         ensures known { IsKnown (setting_of N.table N.base) pass.new }
     {
         lend(room, &mut pass.seat, &mut self.seat);

@@ -69,6 +69,9 @@ impl<N: Store> Desk<N> {
         if let Some(why) = locked.against_ready(top) {
             return Err(why);
         }
+        if locked.len() >= LIMIT {
+            return Err(DeskNo::Short(Short::Room));
+        }
         let Ok(found) = locked.aborted_below(top) else {
             return Err(DeskNo::Short(Short::Memory));
         };

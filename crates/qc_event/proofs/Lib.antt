@@ -40,3 +40,4 @@ pub mod Asked
 pub mod MayGrant
 pub mod LegalConfigs
 pub mod AccessNames
+pub mod Wanting

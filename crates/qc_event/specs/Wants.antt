@@ -8,3 +8,8 @@ use Rattle.qc_event.specs.History.{Past, limit}
 abbrev pub IsWant : Past → Short → Type 0
 IsWant past short.Memory = Unit {0}
 IsWant past short.Room = length past ≡ limit
+
+-- the same at one step: memory was wanting only while the history took more
+abbrev pub IsExactWant : Past → Short → Type 0
+IsExactWant past short.Memory = length past ≡ limit → ⊥
+IsExactWant past short.Room = length past ≡ limit

@@ -3,6 +3,7 @@ use Rattle.std.proofs.Common.{◌≡◌, inl, inr, Bool, true, false, refl, sym,
 use Rattle.std.specs.Prelude.{Option, None, Some, if◌then◌else◌}
 use Rattle.std.proofs.lemmas.Option.{none-some, same_Some}
 use Rattle.qc_event.proofs.OneEntry.{none_before}
+use Rattle.qc_event.proofs.Wanting.{want_of}
 use Rattle.qc_event.specs.Dead.{outcome, is_committed, is_live}
 use Rattle.qc_event.specs.History.{Past, Name, is_ready}
 use Rattle.qc_desk.proofs.Entering.{alive, closed, unready}
@@ -44,7 +45,7 @@ module _ (past : Past) (n : Name) where
   Child why = RefusesChild past n (no_of why)
 
   child_wanting : TakesChildren past n → (why : DeskNo) → IsShort past why → Child why
-  child_wanting takes (desk.Short s) h = (inr takes, h)
+  child_wanting takes (desk.Short s) h = (inr takes, want_of past s h)
   child_wanting takes (desk.Orphan a) h = absurd h
   child_wanting takes desk.Ended h = absurd h
   child_wanting takes (desk.ChildrenOpen x) h = absurd h
@@ -66,7 +67,7 @@ module _ (past : Past) (n : Name) where
   Commit why = RefusesCommit past n (no_of why)
 
   commit_wanting : CanCommit past n → (why : DeskNo) → IsShort past why → Commit why
-  commit_wanting can (desk.Short s) h = (inr can, h)
+  commit_wanting can (desk.Short s) h = (inr can, want_of past s h)
   commit_wanting can (desk.Orphan a) h = absurd h
   commit_wanting can desk.Ended h = absurd h
   commit_wanting can (desk.ChildrenOpen x) h = absurd h

@@ -15,6 +15,7 @@ use Rattle.qc_event.specs.Standing.{open_child}
 use Rattle.qc_event.proofs.Lawful.{committed_is}
 use Rattle.qc_event.proofs.OneEntry.{start_stays, start_now}
 use Rattle.qc_event.proofs.Outcomes.{aborted_is_abort}
+use Rattle.qc_event.proofs.Wanting.{want_of}
 use Rattle.qc_event.specs.Wants.{IsWant}
 use Rattle.qc_event.specs.declared.short.Short.{Short}
 use Rattle.qc_desk.proofs.Entering.{not_ended}
@@ -129,7 +130,7 @@ module _ (c : Client) (before now : Past) (none : Made c [] before now) where
   child_refused of why (inr (free, want)) = by_want why want
     where
       by_want : (w : DeskNo) → IsShort now w → WasRefused c of before now (no_of w)
-      by_want (desk.Short s) h = (none, h)
+      by_want (desk.Short s) h = (none, want_of now s h)
       by_want (desk.Orphan a) h = absurd h
       by_want desk.Ended h = absurd h
       by_want (desk.ChildrenOpen x) h = absurd h
@@ -143,7 +144,7 @@ module _ (c : Client) (before now : Past) (none : Made c [] before now) where
 
   -- a call to commit
   want_refused : (of : Name) (w : DeskNo) → IsShort now w → NotCommitted c of before now (no_of w)
-  want_refused of (desk.Short s) h = (inl none, h)
+  want_refused of (desk.Short s) h = (inl none, want_of now s h)
   want_refused of (desk.Orphan a) h = absurd h
   want_refused of desk.Ended h = absurd h
   want_refused of (desk.ChildrenOpen x) h = absurd h
@@ -177,7 +178,7 @@ pub abort_says : (n : Name) (v w : View) (why : DeskNo) → Walk v w [] → Agai
 abort_says n v w why walk (inr (free, want)) = by_want why want
   where
     by_want : (x : DeskNo) → IsShort w.seen x → IsUnaborted v w n (no_of x)
-    by_want (desk.Short s) h = (walk, h)
+    by_want (desk.Short s) h = (walk, want_of w.seen s h)
     by_want (desk.Orphan a) h = absurd h
     by_want desk.Ended h = absurd h
     by_want (desk.ChildrenOpen x) h = absurd h
@@ -203,7 +204,7 @@ commit_dead past n a (inl is) = either Is (if_ended past n) _
 
 -- and where it is refused for want of memory or of room, that is what was wanting
 pub commit_want : (past : Past) (n : Name) (s : Short) → Against (against_commit n) past (desk.Short s) → IsWant past s
-commit_want past n s (inr (free, want)) = want
+commit_want past n s (inr (free, want)) = want_of past s want
 commit_want past n s (inl is) = either Is (if_ended past n) _
     (λ x h. let e = ended_says past n x h in subst Is (sym e.0) tt)
     (either Is (if_dead past n) _

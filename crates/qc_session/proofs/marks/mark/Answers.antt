@@ -2,6 +2,7 @@
 use Rattle.qc_carry.proofs.Walking.{of_entered, of_looked}
 use Rattle.qc_event.specs.Tables.{setting_of}
 use Rattle.qc_event.specs.declared.event.Event.TheVariants as event
+use Rattle.qc_event.proofs.Wanting.{want_of}
 use Rattle.qc_desk.specs.Refusing.{against_nothing}
 use Rattle.qc_desk.specs.declared.view.View.{View}
 use Rattle.qc_session.proofs.Tidy.{mark_tidy}
@@ -21,7 +22,7 @@ returns-in_err-marked-clause-err g c =
     let w = c.mark-marked.new.self.pass in
     let p = err_from_is_err_and c.from_residual.result c.from_residual.ensures.1 in
     let wanted = c.in_err-marked.ensures.err in
-    rw (p.1, p.2) (of_looked v w wanted.0, wanted.1)
+    rw (p.1, p.2) (of_looked v w wanted.0, want_of w.seen c.in_err-marked.field-0.0 wanted.1)
 
 pub returns-clause-went : goal.returns-clause-went
 returns-clause-went g c =

@@ -2,6 +2,7 @@
 use Rattle.qc_carry.proofs.Walking.{of_entered_as, of_looked}
 use Rattle.qc_event.specs.Tables.{setting_of}
 use Rattle.qc_event.specs.declared.event.Kind.TheVariants as kind
+use Rattle.qc_event.proofs.Wanting.{want_of}
 use Rattle.qc_desk.specs.declared.view.View.{View}
 use Rattle.qc_session.proofs.Beginning.{top_begun, top_numbers}
 use Rattle.qc_session.proofs.Own.{made_so}
@@ -28,7 +29,7 @@ returns-in_err-name-clause-err g c = λ client for.
     let w = c.start_top-started.new.self.pass in
     let r = c.in_err-name.ensures.err in
     let p = err_from_is_err_and c.from_residual.result c.from_residual.ensures.1 in
-    rw (p.1, p.2) (made_so (setting_of g.N.Store.table g.N.Store.base) v w client for (seen_legal c.start_top-started.new.self.known) [] (of_looked v w r.0), r.1)
+    rw (p.1, p.2) (made_so (setting_of g.N.Store.table g.N.Store.base) v w client for (seen_legal c.start_top-started.new.self.known) [] (of_looked v w r.0), want_of w.seen c.in_err-name.field-0.0 r.1)
 
 pub returns-clause-went : goal.returns-clause-went
 returns-clause-went g c =
@@ -48,4 +49,4 @@ pub returns-in_err-name-clause-refused : goal.returns-in_err-name-clause-refused
 returns-in_err-name-clause-refused g c =
     let r = c.in_err-name.ensures.err in
     let p = err_from_is_err_and c.from_residual.result c.from_residual.ensures.1 in
-    rw (p.1, p.2) (inl refl, r.1)
+    rw (p.1, p.2) (inl refl, want_of c.start_top-started.new.self.pass.seen c.in_err-name.field-0.0 r.1)

@@ -2,7 +2,7 @@ use Rattle.qc_event.specs.Tables.{setting_of}
 use Rattle.std.proofs.Common.{◌≡◌, ℕ, List, [], ◌∷◌, sym, ap, ◌∙◌, subst}
 use Rattle.std.specs.Prelude.{IfErr, OnOk}
 use Rattle.qc_event.specs.Legal.{Allowed}
-use Rattle.qc_event.specs.Wants.{IsWant}
+use Rattle.qc_event.specs.Wants.{IsExactWant}
 use Rattle.qc_event.proofs.LegalAgain.{legal_again}
 use Rattle.qc_event.specs.declared.event.Entry.{Entry}
 use Rattle.qc_desk.specs.declared.view.View.{View}
@@ -57,4 +57,4 @@ pub returns-clause-known : goal.returns-clause-known
 returns-clause-known g c = known_at_rest (setting_of g.N.Store.table g.N.Store.base) _ (invariant_of-pass g c).4
 
 pub returns-clause-want : goal.returns-clause-want
-returns-clause-want g c = subst (λ p. IfErr c.push-answer.result (IsWant p)) c.self.view_is (wants c.self.inside.history c.push-answer.result c.push-answer.ensures.room_left)
+returns-clause-want g c = subst (λ p. IfErr c.push-answer.result (IsExactWant p)) c.self.view_is (wants c.self.inside.history c.push-answer.result c.push-answer.ensures.room_left c.push-answer.ensures.full)
