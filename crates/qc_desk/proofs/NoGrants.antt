@@ -1,5 +1,6 @@
 -- A grant that was free by what its copy has seen is allowed as long as the copy granted nothing since.
-use Rattle.std.proofs.Common.{◌≡◌, ℕ, true, false, [], ◌∷◌, ◌++◌, refl, sym, ap, ap₂, ◌∙◌, subst, append-nil}
+use mathlib.Core.Bool.{true≢false}
+use Rattle.std.proofs.Common.{◌≡◌, ℕ, Bool, true, false, [], ◌∷◌, ◌++◌, refl, sym, ap, ap₂, ◌∙◌, subst, append-nil}
 use Rattle.std.specs.Prelude.{Option, None, Some, MatchOption, IfNone, ◌==◌, cond, find, filter, is_some, option_to_list}
 use Rattle.std.specs.List.{AllByRecursion}
 use Rattle.std.specs.Option.{option_or, option_map}
@@ -18,9 +19,10 @@ use Rattle.qc_event.specs.Legal.{Legal, Allowed, MayHappen}
 use Rattle.qc_event.specs.Seats.{copy_seat}
 use Rattle.qc_event.specs.Seen.{is_in_way, is_live_at, changed_by}
 use Rattle.qc_event.proofs.Absent.{same_is, if_not}
-use Rattle.qc_desk.specs.Entries.{AreOthers}
+use Rattle.qc_event.proofs.Later.{alive_before}
+use Rattle.qc_desk.specs.Entries.{AreOthers, entries_of}
 use Rattle.qc_event.proofs.Options.{some_there}
-use Rattle.qc_desk.proofs.Granting.{asked_stays, dead_stays, free_parts, free_again, none_in_way, changed_same}
+use Rattle.qc_desk.proofs.Granting.{asked_stays, free_parts, free_again, none_in_way, changed_same}
 
 -- none of these entries is a grant of the copy
 abbrev pub AreNoGrants : ℕ → Past → Type 0
@@ -81,17 +83,9 @@ grant_still_allowed setting past newer seat copy grant legal all may =
     there : (a : Asked) × (asked past grant.access ≡ Some a) × (a.ask ≡ record { access = grant.access; copy = copy; rec = grant.rec; op = grant.op })
     there = some_there (asked past grant.access) (λ a. a.ask ≡ record { access = grant.access; copy = copy; rec = grant.rec; op = grant.op }) may.request
 
-    -- who lives now lived then
-    lived : dead (newer ++ past) grant.access ≡ None → dead past grant.access ≡ None
-    lived lives = by_death (dead past grant.access) refl
-      where
-        by_death : (o : Option Name) → dead past grant.access ≡ o → o ≡ None
-        by_death None is = refl
-        by_death (Some x) is = let stays = dead_stays newer past grant.access (ap is_some is) in let gone = ap is_some lives in cc
-
     served_now : dead (newer ++ past) grant.access ≡ None → IsServed setting (newer ++ past) copy grant
     served_now lives =
-        let was_served : IsServed setting past copy grant = subst (λ o. IfNone o (IsServed setting past copy grant)) (lived lives) may.served in
+        let was_served : IsServed setting past copy grant = subst (λ o. IfNone o (IsServed setting past copy grant)) (alive_before newer past grant.access lives) may.served in
         let free : AllByRecursion (λ g. is_in_way past grant.rec grant.op grant.access g ≡ false) (grants past copy) = free_parts (is_in_way past grant.rec grant.op grant.access) (grants past copy) was_served.free in
         record {
           free = ap (λ gs. option_map (λ (g : Grant). g.access) (find (is_in_way (newer ++ past) grant.rec grant.op grant.access) gs)) (grants_kept setting past copy newer all)
@@ -104,3 +98,14 @@ grant_still_allowed setting past newer seat copy grant legal all may =
     by_death : (o : Option Name) → dead (newer ++ past) grant.access ≡ o → IfNone (dead (newer ++ past) grant.access) (IsServed setting (newer ++ past) copy grant)
     by_death None is = subst (λ o. IfNone o (IsServed setting (newer ++ past) copy grant)) (sym is) (served_now is)
     by_death (Some x) is = subst (λ o. IfNone o (IsServed setting (newer ++ past) copy grant)) (sym is) tt
+
+-- the copy's own entries have all that it granted
+pub own_grants : (setting : Setting) (copy : ℕ) (past : Past) → Legal setting past → grants (entries_of (copy_seat copy) past) copy ≡ grants past copy
+own_grants setting copy [] legal = refl
+own_grants setting copy (e ∷ past) legal = by_seat (own_grants setting copy past legal.0) (e.seat == copy_seat copy) refl
+  where
+    by_seat : grants (entries_of (copy_seat copy) past) copy ≡ grants past copy → (b : Bool) → (e.seat == copy_seat copy) ≡ b → grants (cond b (e ∷ entries_of (copy_seat copy) past) (entries_of (copy_seat copy) past)) copy ≡ grants (e ∷ past) copy
+    by_seat before true is = ap (λ gs. gs ++ option_to_list (grant_at copy e.event)) before
+    by_seat before false is =
+        let other : grant_at copy e.event ≡ None = none_here setting past copy e past (λ here. true≢false (sym (eq-eqb e.seat (copy_seat copy) here) ∙ is)) legal.1 in
+        before ∙ sym (ap (λ o. grants past copy ++ option_to_list o) other ∙ append-nil (grants past copy))

@@ -49,9 +49,9 @@ AreOfRun setting (suc copy) past = AreGrantsBy setting copy past
 
 -- A store was mounted over disks that told this, for an epoch, with journals up to a limit, and its copies started so. Where the
 -- ledger's disk told its bytes, the record of each top that it was unable to log for want of room would have passed the limit,
--- behind those of the mounting and one for each top committed until then. Of each request that a copy whose disk told its bytes
--- was unable to serve for want of room: at some time it might have made a grant of it, whose record, behind those of the mounting
--- and one for each of its grants then, would have passed the limit. No such copy was strange.
+-- behind those of the mounting and one for each top committed until then. So would that of each request that a copy whose disk
+-- told its bytes was unable to serve for want of room, behind those of the mounting and one for each grant until then: at a time
+-- when it had made just these, it might have granted the request so. No such copy was strange.
 pub record UnablesHadCause (table : Table) (most : ℕ) (told : ℕ → Option (List ℕ)) (epoch : ℕ) (start : List (List Tuple)) (past : Past) : Type 0 where
   pub records : ℕ → List (List ℕ)
   pub mounted : IsMounted table told records epoch start

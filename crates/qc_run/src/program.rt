@@ -196,9 +196,8 @@ where
 
     // Where the ledger's disk told its bytes: each top that the ledger was unable to log for want of room would with its
     // record, behind those of the mounting and of the tops that were committed until then, have passed the longest journal.
-    // Where a copy's disk did: of each request that it was unable to serve for want of room it might have made a grant at
-    // some time, and with that record behind what the disk had then it would have passed the longest journal; and the copy
-    // was never strange.
+    // Where a copy's disk did: so would each request that it was unable to serve for want of room, with the record of a
+    // grant that it might have made of it when it had made those until then; and the copy was never strange.
     ensures unable { terms.OfRun (map string_bytes words.now) (S.view source.old).left
         (S.view source.new).left result
         (λ s. (epoch : ℕ)

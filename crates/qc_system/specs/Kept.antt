@@ -81,20 +81,27 @@ HadNoRoom told before most (e ∷ earlier) = HadNoRoomFor told before most earli
 abbrev pub NoRoomForTops : Bool → List (List ℕ) → ℕ → View → Type 0
 NoRoomForTops told before most pass = told ≡ true → HadNoRoom (listed pass.seen) before most pass.mine
 
--- At a time up to now a copy might have made a grant of this access, which was not dead, and the grant's record, behind those from
--- before and one for each of its grants then, would pass a limit.
-pub record WasFullFor (setting : Setting) (copy : ℕ) (before : List (List ℕ)) (most : ℕ) (past : Past) (access : Name) : Type 0 where
+-- At a time when it had granted what its entries up to now tell, a copy might have made a grant of this access, which was not dead,
+-- and the grant's record, behind those from before and one for each of its grants, would pass a limit.
+pub record WasFullFor (setting : Setting) (copy : ℕ) (before : List (List ℕ)) (most : ℕ) (past own : Past) (access : Name) : Type 0 where
   pub earlier : Past
   pub older : IsOlder earlier past
+  pub given : grants earlier copy ≡ grants own copy
   pub grant : Grant
   pub of_access : grant.access ≡ access
   pub may : MayGrant setting earlier (copy_seat copy) copy grant
   pub alive : dead earlier access ≡ None
-  pub too_long : IsTooLong (length (row (before ++ map (grant_body (length setting.base)) (grants earlier copy)))) most (grant_body (length setting.base) grant)
+  pub too_long : IsTooLong (length (row (before ++ map (grant_body (length setting.base)) (grants own copy)))) most (grant_body (length setting.base) grant)
 
--- so it was of each request that a copy's own entries say it was unable to serve for want of room
+-- so it was where an entry of the copy says that it was unable to serve a request for want of room, by those before it
+abbrev pub CopyHadNoRoomFor : Setting → ℕ → List (List ℕ) → ℕ → Past → Past → Event → Type 0
+CopyHadNoRoomFor setting copy before most past earlier (event.Unable access why.Full) = WasFullFor setting copy before most past earlier access
+CopyHadNoRoomFor setting copy before most past earlier _ = Unit {0}
+
+-- so it was of each of the copy's own entries
 abbrev pub CopyHadNoRoom : Setting → ℕ → List (List ℕ) → ℕ → Past → Past → Type 0
-CopyHadNoRoom setting copy before most past own = (access : Name) → IsTrue (was_unable own access why.Full) → WasFullFor setting copy before most past access
+CopyHadNoRoom setting copy before most past [] = Unit {0}
+CopyHadNoRoom setting copy before most past (e ∷ earlier) = CopyHadNoRoomFor setting copy before most past earlier e.event × CopyHadNoRoom setting copy before most past earlier
 
 -- no request was refused since a copy's disk does not say what the history says
 abbrev pub NoneStrange : Past → Type 0

@@ -11,7 +11,7 @@ use Rattle.qc_event.specs.Tables.{setting_of}
 use Rattle.qc_site.specs.Since.{GrantsGrow}
 use Rattle.qc_site.specs.Sites.{KeepsGranted}
 use Rattle.qc_system.specs.Grown.{LeftAlike}
-use Rattle.qc_system.specs.Kept.{Pays, downs}
+use Rattle.qc_system.specs.Kept.{CopyHadNoRoom, Pays, downs}
 use Rattle.qc_system.proofs.Grown.{disk_in}
 use Rattle.qc_system.proofs.Paying.{faults_of, pays_first}
 use Rattle.qc_system.proofs.held.Held.new.Goals as goal
@@ -33,6 +33,6 @@ invariant_of-result g c =
       pays = subst (λ n. Pays first.faults n (faults_of c.enter.result.log.journal)) (sym none)
           (pays_first first.faults (faults_of c.enter.result.log.journal) (found.count ∙ sym (ap faults_of c.enter.ensures.journal)));
       limit = ap limit_of c.enter.ensures.journal ∙ c.requires.mounted.limit;
-      full = ∣ (λ told access unable. absurd (true≢false (sym unable ∙ fresh access why.Full))) ∣₁;
+      full = ∣ (λ told. subst (CopyHadNoRoom (setting_of g.N.Store.table g.N.Store.base) g.row.C (g.N.Mounting.before (g.row.C + 1)) g.N.Mounting.limit c.enter.result.replica.pass.seen) (sym (ap (λ (v : View). v.mine) c.enter.ensures.pass ∙ c.requires.fresh.0)) tt) ∣₁;
       plain = ∣ (λ told. (c.enter.ensures.strange, λ access unable. true≢false (sym unable ∙ fresh access why.Strange))) ∣₁;
     }

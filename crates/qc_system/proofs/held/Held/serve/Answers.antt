@@ -7,11 +7,15 @@ use Rattle.qc_ledger.proofs.Logging.{up_by}
 use Rattle.qc_ledger.proofs.Passes.{sees_on}
 use Rattle.qc_event.specs.declared.event.Answered.TheVariants.{Full, Strange}
 use Rattle.qc_event.specs.declared.short.Short.TheVariants.{Room}
+use Rattle.qc_event.specs.History.{grants}
+use Rattle.qc_event.specs.Legal.{Legal}
 use Rattle.qc_event.specs.Tables.{setting_of}
 use Rattle.qc_event.specs.Wants.{IsWant}
 use Rattle.qc_journal.specs.Journal.{disk_of, limit_of}
 use Rattle.qc_desk.specs.Entries.{IsOlder}
+use Rattle.qc_desk.proofs.NoGrants.{own_grants}
 use Rattle.qc_site.specs.Answers.{HasAnswered}
+use Rattle.qc_site.specs.AtDesk.{LeavesKnown}
 use Rattle.qc_site.specs.Calls.{AnswerRests, HasServed, site_state}
 use Rattle.qc_site.specs.Log.{log_journal}
 use Rattle.qc_site.proofs.Calls.{served_enters}
@@ -21,7 +25,7 @@ use Rattle.qc_system.specs.Kept.{CopyHadNoRoom, NoneStrange, Pays, downs}
 use Rattle.qc_system.proofs.Grown.{disk_in, left_on}
 use Rattle.qc_system.proofs.Paying.{faults_of, serve_pays}
 use Rattle.qc_system.proofs.Standing.{answer_stands, full_still}
-use Rattle.qc_system.proofs.Unable.{full_for, locks_serve, ok_is, room_later, serve_plain, serve_room}
+use Rattle.qc_system.proofs.Unable.{full_for, locks_serve, ok_is, on_ok, room_later, serve_plain, serve_room}
 use Rattle.qc_system.proofs.held.Held.serve.Goals as goal
 
 pub invariant_of-self : goal.invariant_of-self
@@ -40,9 +44,12 @@ invariant_of-self g c = record {
   full = ∥∥₁_elim c.args.self.now.keeps (hlevel) (λ k. ∥∥₁_map c.args.self.now.full (λ had told.
       serve_room (setting_of g.N.Store.table g.N.Store.base) g.row.C (g.N.Mounting.before (g.row.C + 1)) g.N.Mounting.limit c.args.ask.now c.args.self.now.site.replica c.serve.new.self.replica c.serve.result
       (served_enters g.row.C c.args.ask.now c.serve.new.seer (site_state c.args.self.now.site) (site_state c.serve.new.self) c.serve.result c.serve.ensures.served) c.serve.ensures.err c.serve.ensures.became.seen
-      (λ is. let ready = (ok_is (HasServed g.row.C c.args.ask.now c.serve.new.seer (site_state c.args.self.now.site) (site_state c.serve.new.self)) c.serve.result Full is c.serve.ensures.served).rests in
-      full_for (setting_of g.N.Store.table g.N.Store.base) g.row.C (g.N.Mounting.before (g.row.C + 1)) g.N.Mounting.limit c.args.ask.now c.serve.new.self.log c.serve.new.self.replica (c.serve.ensures.full is)
-      (c.serve.ensures.became.kept (g.N.Mounting.before (g.row.C + 1)) (k told).0) ready.none (up_by c.serve.new.self.log.journal.state (c.serve.new.self.journal ready.up))
+      (λ is own same.
+      let served = ok_is (HasServed g.row.C c.args.ask.now c.serve.new.seer (site_state c.args.self.now.site) (site_state c.serve.new.self)) c.serve.result Full is c.serve.ensures.served in
+      let known = on_ok (LeavesKnown (setting_of g.N.Store.table g.N.Store.base) g.row.C c.serve.new.self.replica.pass c.serve.new.seer) c.serve.result Full is c.serve.ensures.known in
+      let all = sym (own_grants (setting_of g.N.Store.table g.N.Store.base) g.row.C c.serve.new.self.replica.pass.seen (subst (Legal (setting_of g.N.Store.table g.N.Store.base)) served.shown known.known.legal)) ∙ sym (ap (λ p. grants p g.row.C) known.own) ∙ same in
+      full_for (setting_of g.N.Store.table g.N.Store.base) g.row.C (g.N.Mounting.before (g.row.C + 1)) g.N.Mounting.limit c.args.ask.now c.serve.new.self.log c.serve.new.self.replica own all (c.serve.ensures.full is)
+      (c.serve.ensures.became.kept (g.N.Mounting.before (g.row.C + 1)) (k told).0) served.rests.none (up_by c.serve.new.self.log.journal.state (c.serve.new.self.journal served.rests.up))
       (g.met.D.Disk.reads_as_image (disk_of (log_journal c.serve.new.self.log)).disk.value) c.serve.new.self.copies (c.serve.ensures.became.limit ∙ c.args.self.now.limit))
       (had told)));
   plain = ∥∥₁_elim c.args.self.now.keeps (hlevel) (λ k. ∥∥₁_map c.args.self.now.plain (λ was told.
@@ -81,7 +88,7 @@ invariant_of-self-in-Err g c =
           (room_later setting g.row.C before g.N.Mounting.limit tried.seen shown.seen tried.mine c.show.ensures.looks.older
           (serve_room setting g.row.C before g.N.Mounting.limit c.args.ask.now c.args.self.now.site.replica c.serve.new.self.replica c.serve.result
           (served_enters g.row.C c.args.ask.now c.serve.new.seer (site_state c.args.self.now.site) (site_state c.serve.new.self) c.serve.result c.serve.ensures.served) c.serve.ensures.err c.serve.ensures.became.seen
-          (λ is. absurd (let never = sym c.in-Err.is ∙ is in cc)) (had told))));
+          (λ is own same. absurd (let never = sym c.in-Err.is ∙ is in cc)) (had told))));
       plain = ∥∥₁_elim c.args.self.now.keeps (hlevel) (λ k. ∥∥₁_map c.args.self.now.plain (λ was told. (
         ap is_some c.show.ensures.strange ∙ c.serve.ensures.became.plain before (k told).0 ∙ (was told).0,
         subst NoneStrange (sym c.show.ensures.looks.mine)
