@@ -1,6 +1,7 @@
 pub mod Exact
 pub mod Fields
 pub mod Bodies
+pub mod Bases
 pub mod Loops
 pub mod Fits
 pub mod Puts

@@ -1,11 +1,13 @@
 -- What a copy's records tell, and which may stand behind which.
-use Rattle.std.specs.Prelude.{ℕ, ◌≡◌, ◌≢◌, ◌<◌, ◌+◌, List, [], ◌∷◌, length, All, MatchOption}
+use Rattle.std.specs.Prelude.{ℕ, ◌≡◌, ◌≢◌, ◌<◌, ◌≤◌, ◌+◌, ◌⊎◌, List, [], ◌∷◌, length, All, MatchOption}
 use Rattle.qc_event.specs.declared.event.Grant.{Grant}
 use Rattle.qc_event.specs.declared.table.Table.{Table}
+use Rattle.qc_event.specs.History.{Name}
+use Rattle.qc_codec.specs.Base.{base_in, copy_base, epoch_of_base}
 use Rattle.qc_codec.specs.Bodies as body
 use Rattle.qc_codec.specs.Fields.{format_1}
 use Rattle.qc_codec.specs.Form.{Form, all_of}
-use Rattle.qc_codec.specs.Ledger.{IsOld, readings}
+use Rattle.qc_codec.specs.Ledger.{IsOld, epoch_in, readings}
 use Rattle.qc_codec.specs.Order.{EachMay, FirstMayNot}
 use Rattle.qc_codec.specs.declared.past.Past.{Past}
 use Rattle.qc_codec.specs.declared.record.Made.{Made}
@@ -14,20 +16,31 @@ use Rattle.qc_codec.specs.declared.record.Made.{Made}
 abbrev pub grant_form : Table → Form Grant
 grant_form table = body.grant (format_1 table.copies)
 
--- A grant may stand behind others: its record is one of the table's, its top is of no later epoch than the ledger's
--- last, and its access is none of theirs.
-abbrev pub MayFollow : Table → Past → List Grant → Grant → Type 0
-MayFollow table past before g = (g.rec < length table.records) × IsOld (past.epoch + 1) g.access × All (λ (other : Grant). other.access ≢ g.access) before
+-- a name is below a top of a later epoch
+abbrev pub IsLater : ℕ → Name → Type 0
+IsLater epoch [] = ⊥
+IsLater epoch (number ∷ n) = epoch < epoch_in number
+
+-- A grant may stand behind a base of an epoch and other grants: its record is one of the table's, its top is of a later epoch
+-- than the base and of no later one than the ledger's last, and its access is none of theirs.
+abbrev pub MayFollow : Table → Past → ℕ → List Grant → Grant → Type 0
+MayFollow table past base before g = (g.rec < length table.records) × IsOld (past.epoch + 1) g.access × IsLater base g.access × All (λ (other : Grant). other.access ≢ g.access) before
 
 -- a made record tells that it is of this copy's disk
 abbrev pub IsMadeOf : ℕ → Made → Type 0
 IsMadeOf copy made = made.who ≡ copy + 1
 
 module _ (copy : ℕ) (table : Table) (past : Past) where
-  -- a body may stand behind others: the first tells how the disk was made, and each further one is a grant
+  -- a body is a grant that may stand behind these
+  abbrev pub IsNextBody : List (List ℕ) → List ℕ → Type 0
+  IsNextBody bodies bytes = MatchOption (all_of (grant_form table) bytes) ⊥ (MayFollow table past (epoch_of_base (base_in copy_base bodies)) (readings (grant_form table) bodies))
+
+  -- a body may stand behind others: the first tells how the disk was made, the second may be a base of no later epoch than the
+  -- ledger's last, and each further one is a grant
   abbrev pub MayStand : List (List ℕ) → List ℕ → Type 0
   MayStand [] bytes = MatchOption (all_of body.made bytes) ⊥ (IsMadeOf copy)
-  MayStand (first ∷ bodies) bytes = MatchOption (all_of (grant_form table) bytes) ⊥ (MayFollow table past (readings (grant_form table) (first ∷ bodies)))
+  MayStand (first ∷ []) bytes = MatchOption (base_in copy_base (first ∷ bytes ∷ [])) ⊥ (λ base. base.epoch ≤ past.epoch) ⊎ IsNextBody (first ∷ []) bytes
+  MayStand (first ∷ second ∷ bodies) bytes = IsNextBody (first ∷ second ∷ bodies) bytes
 
   -- each body may stand behind those before it
   abbrev pub AreInOrder : List (List ℕ) → Type 0

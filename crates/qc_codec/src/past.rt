@@ -43,10 +43,11 @@ impl Tops {
     }
 }
 
-/// What the image of a ledger told before a mounting: its last epoch, 0 where there is none, and the tops that it
-/// logged.
+/// What the image of a ledger told before a mounting: its last epoch, which is that of its base where none follows it,
+/// and 0 where there is neither; the epoch of its base, where there is one; and the tops that it logged since.
 #[derive(Debug, Drop)]
 pub struct Past {
     pub epoch: u32,
+    pub base: Option<u32>,
     pub tops: Tops,
 }
