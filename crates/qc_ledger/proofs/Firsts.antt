@@ -1,32 +1,39 @@
 -- Which fault of bodies is the first.
-use Rattle.std.proofs.Common.{◌≡◌, ℕ, ◌+◌, ◌<◌, ◌≤◌, List, [], ◌∷◌, ◌++◌, length, take, drop, get_or, refl, sym, ap, ◌∙◌, subst, arith, take-append-drop, length-take}
-use Rattle.std.specs.Prelude.{Result, Ok, Err, IfErr, Option, None, Some, MatchOption, Vec, slice_index_or}
+use Rattle.std.proofs.Common.{◌≡◌, ◌≢◌, inl, ℕ, zero, suc, ◌+◌, ◌<◌, ◌≤◌, false, true, List, [], ◌∷◌, ◌++◌, length, take, drop, get_or, refl, sym, ap, ◌∙◌, subst, arith, take-append-drop, length-take}
+use mathlib.Core.Bool.{true≢false}
+use Rattle.std.specs.Prelude.{Result, Ok, Err, IfErr, Option, None, Some, MatchOption, Vec, is_some, slice_index_or}
 use Rattle.std.specs.Result.{IsErrAnd, IsErrOf}
 use Rattle.std.specs.declared.alloc.Global.{Global}
 use Rattle.std.proofs.lemmas.List.{drop_more, length-map, map-append, map_push, take_more}
 use Rattle.qc_event.specs.declared.table.Table.{Table}
+use Rattle.qc_codec.specs.Base.{base_in, ledger_base}
 use Rattle.qc_codec.specs.Bodies as body
+use Rattle.qc_codec.specs.Fields.{format_1}
 use Rattle.qc_codec.specs.Form.{all_of}
-use Rattle.qc_codec.specs.Ledger.{AreInOrder, IsMade, MayFollow, MayStand, made_for, past_in}
+use Rattle.qc_codec.specs.Ledger.{AreInOrder, IsMade, IsNextBody, MayFollow, MayStand, made_for, past_in}
 use Rattle.qc_codec.specs.declared.image.ImageFault.{ImageFault}
 use Rattle.qc_codec.specs.declared.image.ImageFault.TheVariants.{Broken, Grammar, Full, Table as OtherTable, Epoch}
 use Rattle.qc_codec.specs.declared.past.Past.{Past}
+use Rattle.qc_codec.specs.declared.record.BaseRecord.{BaseRecord}
 use Rattle.qc_codec.specs.declared.record.Made.{Made}
 use Rattle.qc_codec.specs.declared.record.LedgerRecord.{LedgerRecord}
 use Rattle.qc_codec.specs.declared.record.LedgerRecord.TheVariants as ledger_record
-use Rattle.qc_codec.proofs.Bodies.{exact_ledger, made_fits_ledger}
+use Rattle.qc_codec.proofs.Bases.{made_spelled}
+use Rattle.qc_codec.proofs.Bodies.{exact_ledger, exact_made, made_fits_ledger}
 use Rattle.qc_codec.proofs.Exact.{all_again}
+use Rattle.qc_codec.proofs.Fits.{IsSized, making_sized}
 use Rattle.qc_codec.proofs.Order.{each_none, each_push}
 use Rattle.qc_event.specs.declared.short.Short.TheVariants.{Memory, Room}
 use Rattle.qc_journal.specs.Image.{bodies_of}
 use Rattle.qc_ledger.specs.Image.{made_body, AreMadeFor, IsLedgerFault}
-use Rattle.qc_ledger.specs.Reading.{IsFirstBad, IsLaterBad}
-use Rattle.qc_ledger.specs.Seen.{with_body}
+use Rattle.qc_ledger.specs.Reading.{AreRead, IsFirstBad, IsLaterBad, IsMadeOver}
+use Rattle.qc_ledger.specs.Seen.{HasNumbers, told_by, with_base, with_body}
+use Rattle.qc_ledger.specs.declared.seen.Seen.{Seen}
 use Rattle.qc_ledger.specs.Refusing.{IsOfLedgerImage, IsOfBytes}
 use Rattle.qc_ledger.specs.declared.fault.LedgerNo.{LedgerNo}
 use Rattle.qc_ledger.specs.declared.fault.LedgerNo.TheVariants.{Disk, Image, Short}
 use Rattle.qc_ledger.specs.declared.fault.LedgerNo.TheVariants as ledger_no
-use Rattle.qc_ledger.proofs.Told.{by_stands, past_push, stands_by}
+use Rattle.qc_ledger.proofs.Told.{base_front, base_no_record, base_read, by_stands, past_base, past_push, stands_by}
 
 -- HOW THE LEDGER WAS MADE
 
@@ -38,6 +45,17 @@ pub made_again : (m : Made) → body.made.fits m → m.who ≡ 0 → all_of body
 made_again m fits is =
     ap (λ (x : Made). all_of body.ledger (body.ledger.spell (ledger_record.Made x))) (made_whole m is)
     ∙ all_again body.ledger exact_ledger (ledger_record.Made m) (made_fits_ledger m fits)
+
+-- and as one of a disk
+pub made_alone : (m : Made) → body.made.fits m → m.who ≡ 0 → all_of body.made (made_body m.table) ≡ Some m
+made_alone m fits is =
+    ap (λ (x : Made). all_of body.made (body.ledger.spell (ledger_record.Made x))) (made_whole m is)
+    ∙ ap (all_of body.made) (made_spelled m)
+    ∙ all_again body.made exact_made m fits
+
+pub made_sized : (m : Made) → body.made.fits m → IsSized m.table
+unfolding body.made
+made_sized m fits = making_sized m fits
 
 -- FAULTS
 
@@ -81,9 +99,13 @@ module _ (bodies : List (Vec ℕ Global)) where
     pub so_many : i ≡ length (bodies_of (take i bodies))
     so_many = omega (arith, within, length-map (take i bodies) (λ (b : Vec ℕ Global). b.items), length-take i bodies)
 
+    -- behind the base of all it leaves the base
+    base_same : 1 ≤ i → base_in ledger_base (bodies_of (take i bodies)) ≡ base_in ledger_base (bodies_of bodies) → base_in ledger_base (bodies_of (take i bodies) ++ v.items ∷ []) ≡ base_in ledger_base (bodies_of (take i bodies))
+    base_same some base = sym (base_front (bodies_of (take i bodies)) (bodies_of (drop (i + 1) bodies)) v.items (omega (arith, some, so_many))) ∙ ap (base_in ledger_base) (sym parted) ∙ sym base
+
     -- a body that may not stand behind those before it is the first fault
-    pub later_bad : 1 ≤ i → AreInOrder (bodies_of (take i bodies)) → (MatchOption (all_of body.ledger v.items) ⊥ (MayFollow (past_in (bodies_of (take i bodies)))) → ⊥) → IsLaterBad (bodies_of bodies) (Grammar i)
-    later_bad some order never = (
+    pub later_bad : 1 ≤ i → base_in ledger_base (bodies_of (take i bodies)) ≡ base_in ledger_base (bodies_of bodies) → AreInOrder (bodies_of (take i bodies)) → (IsNextBody (bodies_of (take i bodies)) v.items → ⊥) → IsLaterBad (bodies_of bodies) (Grammar i)
+    later_bad some base order never = (
       (λ none. omega (arith, some, none)),
       record {
         before = bodies_of (take i bodies);
@@ -92,23 +114,26 @@ module _ (bodies : List (Vec ℕ Global)) where
         split = parted;
         size = so_many;
         order = order;
-        breaks = λ may. never (by_stands (bodies_of (take i bodies)) v.items (omega (arith, some, so_many)) may);
+        breaks = λ may. never (by_stands (bodies_of (take i bodies)) v.items (omega (arith, some, so_many)) (base_same some base) may);
       },
     )
 
     -- a body that may stand behind those before it
-    pub keeps_on : (past : Past) (bytes : List ℕ) → 1 ≤ i → bytes ≡ v.items → past ≡ past_in (bodies_of (take i bodies)) → AreInOrder (bodies_of (take i bodies)) → MatchOption (all_of body.ledger bytes) ⊥ (MayFollow past)
-        → (with_body past (all_of body.ledger bytes) ≡ past_in (bodies_of (take (i + 1) bodies))) × AreInOrder (bodies_of (take (i + 1) bodies))
-    keeps_on past bytes some same told order may =
+    pub keeps_on : (past : Past) (bytes : List ℕ) → 1 ≤ i → bytes ≡ v.items → base_in ledger_base (bodies_of (take i bodies)) ≡ base_in ledger_base (bodies_of bodies) → past ≡ past_in (bodies_of (take i bodies)) → AreInOrder (bodies_of (take i bodies))
+        → MatchOption (all_of body.ledger bytes) ⊥ (MayFollow past)
+        → (with_body past (all_of body.ledger bytes) ≡ past_in (bodies_of (take (i + 1) bodies))) × AreInOrder (bodies_of (take (i + 1) bodies)) × (base_in ledger_base (bodies_of (take (i + 1) bodies)) ≡ base_in ledger_base (bodies_of bodies))
+    keeps_on past bytes some same base told order may =
         let so_far = bodies_of (take i bodies) in
         let one = sym one_more in
         let stands = stands_by so_far bytes (omega (arith, some, so_many)) (subst (λ p. MatchOption (all_of body.ledger bytes) ⊥ (MayFollow p)) told may) in
-        let all : so_far ++ bytes ∷ [] ≡ bodies_of (take (i + 1) bodies) = ap (λ (b : List ℕ). so_far ++ b ∷ []) same ∙ one in (
-          ap (λ p. with_body p (all_of body.ledger bytes)) told ∙ sym (past_push so_far bytes) ∙ ap past_in all,
+        let all : so_far ++ bytes ∷ [] ≡ bodies_of (take (i + 1) bodies) = ap (λ (b : List ℕ). so_far ++ b ∷ []) same ∙ one in
+        let still : base_in ledger_base (so_far ++ bytes ∷ []) ≡ base_in ledger_base so_far = ap (λ (b : List ℕ). base_in ledger_base (so_far ++ b ∷ [])) same ∙ base_same some base in (
+          ap (λ p. with_body p (all_of body.ledger bytes)) told ∙ sym (past_push so_far bytes still) ∙ ap past_in all,
           subst AreInOrder all (each_push MayStand so_far bytes order stands),
+          ap (base_in ledger_base) (sym all) ∙ still ∙ base,
         )
 
--- THE FIRST BODY ALONE
+-- THE FIRST BODIES
 
 made_tells : (o : Option LedgerRecord) → MatchOption o ⊥ IsMade → with_body (past_in []) o ≡ past_in []
 made_tells None made = absurd made
@@ -116,9 +141,67 @@ made_tells (Some (ledger_record.Made m)) made = refl
 made_tells (Some (ledger_record.Epoch epoch)) made = absurd made
 made_tells (Some (ledger_record.Top top aborted)) made = absurd made
 
-pub begun : (bodies : List (Vec ℕ Global)) → 0 < length bodies → MayStand [] (slice_index_or (bodies_of bodies) 0 []) → (past_in (bodies_of (take 1 bodies)) ≡ past_in []) × AreInOrder (bodies_of (take 1 bodies))
+begun : (bodies : List (Vec ℕ Global)) → 0 < length bodies → MayStand [] (slice_index_or (bodies_of bodies) 0 []) → (past_in (bodies_of (take 1 bodies)) ≡ past_in []) × AreInOrder (bodies_of (take 1 bodies))
 begun [] some may = absurd (omega (arith, some))
-begun (v ∷ bodies) some may = (past_push [] v.items ∙ made_tells (all_of body.ledger v.items) may, each_push MayStand [] v.items (each_none MayStand) may)
+begun (v ∷ bodies) some may = (past_push [] v.items refl ∙ made_tells (all_of body.ledger v.items) may, each_push MayStand [] v.items (each_none MayStand) may)
+
+-- the first body was read, and no base stands behind it
+one_read : (bodies : List (Vec ℕ Global)) (seen : Seen) → 0 < length bodies → MayStand [] (slice_index_or (bodies_of bodies) 0 []) → base_in ledger_base (bodies_of bodies) ≡ None → told_by seen ≡ past_in [] → HasNumbers seen → AreRead bodies seen 1
+one_read [] seen some may none told numbers = absurd (omega (arith, some))
+one_read (v ∷ bodies) seen some may none told numbers =
+    let b = begun (v ∷ bodies) some may in
+    record { some = omega arith; within = omega (arith, some); told = told ∙ sym b.0; order = b.1; base = sym none; numbers = numbers }
+
+pub above_one : (n : ℕ) → 0 < n → n ≢ 1 → 1 < n
+above_one zero some other = absurd (omega (arith, some))
+above_one (suc zero) some other = absurd (other refl)
+above_one (suc (suc n)) some other = omega arith
+
+-- there is no other
+pub alone_read : (bodies : List (Vec ℕ Global)) (seen : Seen) → length bodies ≡ 1 → MayStand [] (slice_index_or (bodies_of bodies) 0 []) → told_by seen ≡ past_in [] → HasNumbers seen → AreRead bodies seen 1
+alone_read [] seen one may told numbers = absurd (omega (arith, one))
+alone_read (v ∷ []) seen one may told numbers = one_read (v ∷ []) seen (omega arith) may refl told numbers
+alone_read (v ∷ w ∷ bodies) seen one may told numbers = absurd (omega (arith, one))
+
+module _ (copies : ℕ) (v : Vec ℕ Global) (bytes : List ℕ) (same : bytes ≡ v.items) (seen : Seen) where
+  -- what the second is as a base
+  abbrev as_base : Option BaseRecord
+  as_base = all_of (body.base (format_1 copies) 0) bytes
+
+  second_is : (f s : Vec ℕ Global) (bodies : List (List ℕ)) → v ≡ s → IsMadeOver copies f.items → base_in ledger_base (f.items ∷ s.items ∷ bodies) ≡ as_base
+  second_is f s bodies is over = base_read copies f.items s.items bodies over ∙ ap (all_of (body.base (format_1 copies) 0)) (ap (λ (w : Vec ℕ Global). w.items) (sym is) ∙ sym same)
+
+  -- it is one
+  pub two_read : (bodies : List (Vec ℕ Global)) → 1 < length bodies → v ≡ get_or bodies 1 v → MayStand [] (slice_index_or (bodies_of bodies) 0 []) → IsMadeOver copies (slice_index_or (bodies_of bodies) 0 [])
+      → is_some as_base ≡ true → told_by seen ≡ with_base (past_in []) as_base → HasNumbers seen → AreRead bodies seen 2
+  two_read [] within is may over took told numbers = absurd (omega (arith, within))
+  two_read (f ∷ []) within is may over took told numbers = absurd (omega (arith, within))
+  two_read (f ∷ s ∷ bodies) within is may over took told numbers = by as_base refl took
+    where
+      by : (o : Option BaseRecord) → as_base ≡ o → is_some o ≡ true → AreRead (f ∷ s ∷ bodies) seen 2
+      by None reads none = absurd (true≢false (sym none))
+      by (Some b) reads one =
+          let behind : base_in ledger_base (f.items ∷ s.items ∷ []) ≡ Some b = second_is f s [] is over ∙ reads in
+          let none : all_of body.ledger s.items ≡ None = ap (all_of body.ledger) (ap (λ (w : Vec ℕ Global). w.items) (sym is) ∙ sym same) ∙ base_no_record (format_1 copies) bytes b reads in
+          record {
+            some = omega arith;
+            within = omega (arith, within);
+            told = told ∙ ap (with_base (past_in [])) reads ∙ sym (past_base f.items s.items b behind none may);
+            order = each_push MayStand (f.items ∷ []) s.items (begun (f ∷ s ∷ bodies) (omega arith) may).1 (inl (ap (λ (o : Option BaseRecord). is_some o) behind));
+            base = refl;
+            numbers = numbers;
+          }
+
+  -- it is none
+  pub no_base_read : (bodies : List (Vec ℕ Global)) → 1 < length bodies → v ≡ get_or bodies 1 v → MayStand [] (slice_index_or (bodies_of bodies) 0 []) → IsMadeOver copies (slice_index_or (bodies_of bodies) 0 [])
+      → is_some as_base ≡ false → told_by seen ≡ with_base (past_in []) as_base → HasNumbers seen → AreRead bodies seen 1
+  no_base_read [] within is may over took told numbers = absurd (omega (arith, within))
+  no_base_read (f ∷ []) within is may over took told numbers = absurd (omega (arith, within))
+  no_base_read (f ∷ s ∷ bodies) within is may over took told numbers = by as_base refl took
+    where
+      by : (o : Option BaseRecord) → as_base ≡ o → is_some o ≡ false → AreRead (f ∷ s ∷ bodies) seen 1
+      by None reads none = one_read (f ∷ s ∷ bodies) seen (omega arith) may (second_is f s (bodies_of bodies) is over ∙ reads) (told ∙ ap (with_base (past_in [])) reads) numbers
+      by (Some b) reads none = absurd (true≢false none)
 
 -- A FAULT OF BYTES IS HANDED ON BY A MOUNTING
 

@@ -1,5 +1,5 @@
 -- The numbers of tops, with one more.
-use Rattle.std.proofs.Common.{◌≡◌, ◌≢◌, inl, inr, ℕ, ◌<◌, ◌≤◌, List, [], ◌∷◌, ◌++◌, length, refl, sym, ap, ◌∙◌, subst, arith, cond, length-append}
+use Rattle.std.proofs.Common.{◌≡◌, ◌≢◌, inl, inr, ℕ, ◌<◌, ◌≤◌, List, [], ◌∷◌, ◌++◌, length, sym, ap, ◌∙◌, subst, arith, cond, length-append}
 use mathlib.Core.Bool.{true≢false}
 use Rattle.std.specs.Prelude.{All, Some, true, false, slice_get}
 use Rattle.std.proofs.lemmas.Option.{same_Some}

@@ -17,7 +17,6 @@ use Rattle.qc_journal.specs.declared.journal.State.TheVariants.{Up, Down}
 use Rattle.qc_journal.proofs.Moments.{weakened}
 use Rattle.qc_codec.specs.Bodies as body
 use Rattle.qc_codec.specs.Fields.{word}
-use Rattle.qc_codec.specs.declared.record.Made.{Made}
 use Rattle.qc_codec.specs.declared.record.LedgerRecord.TheVariants as ledger_record
 use Rattle.qc_ledger.specs.Image.{LAST_EPOCH, IsFull, made_where_none}
 use Rattle.qc_ledger.specs.Mounted.{HasSome}
@@ -107,11 +106,6 @@ same_err (Ok x) e f and is = absurd and
 same_err (Err y) e f and is = let one : y ≡ f = cc in sym and ∙ one
 
 -- WHAT A MOUNTING WRITES
-
--- how a disk was made is spelled as a record of the ledger
-pub made_spelled : (m : Made) → body.made.spell m ≡ body.ledger.spell (ledger_record.Made m)
-unfolding body.made body.ledger
-made_spelled m = refl
 
 pub epoch_fits : (n : ℕ) → n < LAST_EPOCH → body.ledger.fits (ledger_record.Epoch (n + 1))
 unfolding body.ledger word

@@ -1,18 +1,19 @@
 //! What the bodies of a ledger's journal tell, held to its grammar.
-ghost use Rattle.std.specs.Prelude.{ℕ, ◌≡◌, ◌<◌, ◌↔◌, [], IfOk, IfErr, OnOk, IsTrue, MatchOption, Some, length, slice_index_or};
+ghost use Rattle.std.specs.Prelude.{ℕ, ◌≡◌, ◌<◌, ◌≤◌, ◌↔◌, [], IfOk, IfErr, OnOk, IsTrue, MatchOption, Some, is_some, length, slice_index_or};
 ghost use Rattle.std.specs.Bool.{OnTrue};
 ghost use Rattle.qc_codec.specs.Bodies as body;
+ghost use Rattle.qc_codec.specs.Fields.{format_1};
 ghost use Rattle.qc_codec.specs.Form.{all_of};
 ghost use Rattle.qc_codec.specs.Ledger.{past_in, MayFollow, MayStand, AreInOrder};
 ghost use Rattle.qc_journal.specs.Image.{bodies_of};
 ghost use Rattle.qc_ledger.specs.Image.{made_body, LAST_EPOCH, AreLedgers, IsLedgerFault};
-ghost use Rattle.qc_ledger.specs.Reading.{IsFirstBad, IsLaterBad};
+ghost use Rattle.qc_ledger.specs.Reading.{AreRead, IsFirstBad, IsLaterBad, IsMadeOver};
 ghost use Rattle.qc_ledger.specs.Refusing.{IsOfBytes};
-ghost use Rattle.qc_ledger.specs.Seen.{told_by, HasNumbers, with_body};
+ghost use Rattle.qc_ledger.specs.Seen.{told_by, HasNumbers, with_base, with_body};
 
 use crate::fault::{LedgerNo, image_no};
 use crate::seen::Seen;
-use qc_codec::{CodecNo, ImageFault, LedgerRecord, Made, Past, read_ledger};
+use qc_codec::{CodecNo, ImageFault, LedgerRecord, Made, Past, read_base, read_ledger};
 use qc_event::Short;
 use qc_journal::Body;
 use std::alloc::Global;
@@ -23,6 +24,7 @@ fn check_made(alloc: Global, first: &[u8], made: Made, spelled: &[u8]) -> Result
     requires who { made.who ≡ 0 }
     requires spelled { spelled.now ≡ made_body made.table }
     ensures made { OnOk result (all_of body.ledger first.now ≡ Some (LedgerRecord.Made made)) }
+    ensures over { OnOk result (all_of body.made first.now ≡ Some made) }
     ensures fault { IfErr result (IsOfBytes (IsFirstBad made.table first.now)) }
 {
     if first == spelled {
@@ -36,6 +38,47 @@ fn check_made(alloc: Global, first: &[u8], made: Made, spelled: &[u8]) -> Result
         Ok(_) | Err(CodecNo::Bad) => Err(image_no(ImageFault::Grammar { index: 0 })),
         Err(CodecNo::Memory) => Err(LedgerNo::Short(Short::Memory)),
     }
+}
+
+// Takes in the base that bytes are, where they are one of a store of so many copies, and tells whether they are.
+fn take_base(alloc: Global, seen: &mut Seen, bytes: &[u8], copies: u8) -> Result<bool, LedgerNo>
+    requires few { copies ≤ 16 }
+    requires numbers { HasNumbers seen.old }
+    ensures tells { IfOk result (λ taken. taken ≡ is_some (all_of (body.base (format_1 copies) 0)
+        bytes.now)) }
+    ensures taken { OnOk result (told_by seen.new ≡ with_base (told_by seen.old)
+        (all_of (body.base (format_1 copies) 0) bytes.now)) }
+    ensures numbers { OnOk result (HasNumbers seen.new) }
+    ensures memory { IfErr result (λ no. no ≡ LedgerNo.Short Short.Memory) }
+{
+    match read_base(alloc, bytes, copies, 0) {
+        Ok(base) => {
+            seen.take_base(base.epoch);
+            Ok(true)
+        }
+        Err(CodecNo::Bad) => Ok(false),
+        Err(CodecNo::Memory) => Err(LedgerNo::Short(Short::Memory)),
+    }
+}
+
+// What the first body tells, which says how the ledger was made, and the second where it is a base; and how many
+// bodies they are.
+fn read_front(alloc: Global, bodies: &[Body], copies: u8) -> Result<(Seen, usize), LedgerNo>
+    requires few { copies ≤ 16 }
+    requires some { 0 < length bodies.now }
+    requires made { MayStand [] (slice_index_or (bodies_of bodies.now) 0 []) }
+    requires over { IsMadeOver copies (slice_index_or (bodies_of bodies.now) 0 []) }
+    ensures read { IfOk result (λ front. AreRead bodies.now front.0 front.1) }
+    ensures memory { IfErr result (λ no. no ≡ LedgerNo.Short Short.Memory) }
+{
+    let mut seen = Seen::new(alloc);
+    if bodies.len() == 1 {
+        return Ok((seen, 1));
+    }
+    if take_base(alloc, &mut seen, bodies[1].as_slice(), copies)? {
+        return Ok((seen, 2));
+    }
+    Ok((seen, 1))
 }
 
 // Takes in the record that bytes are, where it is one that may stand behind those before it.
@@ -56,15 +99,17 @@ fn take_next(alloc: Global, seen: &mut Seen, bytes: &[u8]) -> Result<bool, Ledge
 }
 
 // What bodies tell whose first says how the ledger was made, where each may stand behind those before it.
-fn read_rest(alloc: Global, bodies: &[Body]) -> Result<Seen, LedgerNo>
+fn read_rest(alloc: Global, bodies: &[Body], copies: u8) -> Result<Seen, LedgerNo>
+    requires few { copies ≤ 16 }
     requires some { 0 < length bodies.now }
     requires made { MayStand [] (slice_index_or (bodies_of bodies.now) 0 []) }
+    requires over { IsMadeOver copies (slice_index_or (bodies_of bodies.now) 0 []) }
     ensures told { IfOk result (λ seen. told_by seen ≡ past_in (bodies_of bodies.now)) }
     ensures order { OnOk result (AreInOrder (bodies_of bodies.now)) }
     ensures fault { IfErr result (IsOfBytes (IsLaterBad (bodies_of bodies.now))) }
 {
-    let mut seen = Seen::new(alloc);
-    for index in 1..bodies.len() {
+    let (mut seen, behind) = read_front(alloc, bodies, copies)?;
+    for index in behind..bodies.len() {
         if !take_next(alloc, &mut seen, bodies[index].as_slice())? {
             let index = index as u64;
             return Err(image_no(ImageFault::Grammar { index }));
@@ -93,8 +138,9 @@ pub(crate) fn past_of(
     if bodies.is_empty() {
         return Ok(Seen::new(alloc).into_past());
     }
+    let copies = made.table.copies;
     check_made(alloc, bodies[0].as_slice(), made, spelled)?;
-    let seen = read_rest(alloc, bodies)?;
+    let seen = read_rest(alloc, bodies, copies)?;
     if seen.epoch() == u32::MAX {
         return Err(image_no(ImageFault::Epoch(u32::MAX)));
     }

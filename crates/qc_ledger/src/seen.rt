@@ -1,5 +1,5 @@
 //! What records tell, one behind another.
-ghost use Rattle.std.specs.Prelude.{◌≡◌, ◌++◌, ◌∷◌, [], ◌↔◌, IfOk, OnOk, OnErr, IsTrue};
+ghost use Rattle.std.specs.Prelude.{◌≡◌, ◌++◌, ◌∷◌, [], ◌↔◌, IfOk, OnOk, OnErr, IsTrue, None, Some};
 ghost use Rattle.std.specs.Bool.{OnTrue};
 ghost use Rattle.qc_codec.specs.Ledger.{MayFollow};
 ghost use Rattle.qc_codec.specs.declared.record.LedgerRecord.TheVariants.{Epoch, Top};
@@ -17,6 +17,7 @@ const EPOCH: u64 = 0x1_0000_0000;
 #[derive(Drop)]
 pub(crate) struct Seen {
     epoch: u32,
+    base: Option<u32>,
     tops: Vec<Logged>,
     numbers: BTreeSet<u64>,
 }
@@ -26,14 +27,29 @@ impl Seen {
 
     /// Nothing was told.
     pub(crate) fn new(alloc: Global) -> Self
-        ensures none { told_by result ≡ record { epoch = 0; tops = [] } }
+        ensures none { told_by result ≡ record { epoch = 0; base = None; tops = [] } }
         ensures numbers { HasNumbers result }
     {
         Seen {
             epoch: 0,
+            base: None,
             tops: Vec::new(alloc),
             numbers: BTreeSet::new(alloc),
         }
+    }
+
+    /// Takes in the epoch of a base.
+    pub(crate) fn take_base(&mut self, epoch: u32)
+        requires { HasNumbers self.old }
+        ensures taken { told_by self.new ≡ record {
+          epoch = epoch;
+          base = Some epoch;
+          tops = (told_by self.old).tops;
+        } }
+        ensures numbers { HasNumbers self.new }
+    {
+        self.epoch = epoch;
+        self.base = Some(epoch);
     }
 
     // Takes in an epoch, where it is the next.
@@ -51,7 +67,7 @@ impl Seen {
         true
     }
 
-    // Takes in a top, where it is of the last epoch and new. Behind an error nothing is known.
+    // Takes in a top, where it is of the last epoch, which is no base's, and new. Behind an error nothing is known.
     fn take_top(&mut self, top: Name, aborted: Names) -> Result<bool, AllocError>
         requires { HasNumbers self.old }
         ensures tells { IfOk result (λ taken. IsTrue taken ↔ MayFollow (told_by self.old)
@@ -63,7 +79,10 @@ impl Seen {
         let (1, Some(number)) = (top.len(), top.number(0)) else {
             return Ok(false);
         };
-        if number / EPOCH != u64::from(self.epoch) || !self.numbers.insert(number)? {
+        if number / EPOCH != u64::from(self.epoch) || self.base == Some(self.epoch) {
+            return Ok(false);
+        }
+        if !self.numbers.insert(number)? {
             return Ok(false);
         }
         append_moved(&mut self.tops, Logged { top, aborted })?;
@@ -85,7 +104,7 @@ impl Seen {
         }
     }
 
-    /// The last epoch, 0 where there is none.
+    /// The last epoch, 0 where there is neither an epoch nor a base.
     pub(crate) fn epoch(&self) -> u32
         ensures { result ≡ (told_by self.now).epoch }
     {
@@ -98,6 +117,7 @@ impl Seen {
     {
         Past {
             epoch: self.epoch,
+            base: self.base,
             tops: Tops::new(self.tops),
         }
     }

@@ -1,9 +1,9 @@
--- What is wrong with the first body is the first fault of all.
+-- What is wrong with the first body is the first fault of all, and the made record's copies are at most 16.
 use Rattle.std.proofs.Common.{◌∷◌, ◌∙◌, ap, sym, length, drop}
 use Rattle.qc_journal.specs.Image.{bodies_of}
 use Rattle.qc_ledger.specs.Image.{IsLedgerFault}
 use Rattle.qc_ledger.specs.Reading.{IsFirstBad}
-use Rattle.qc_ledger.proofs.Firsts.{first_fault, handed_on, with_first}
+use Rattle.qc_ledger.proofs.Firsts.{first_fault, handed_on, made_sized, with_first}
 use Rattle.qc_event.proofs.Numbers.{nonzero}
 use Rattle.qc_ledger.proofs.reading.past_of.Goals as goal
 
@@ -14,3 +14,6 @@ returns-in_err-check_made-clause-fault c = λ limit.
     handed_on c.from_residual.result c.in_err-check_made.field-0.0 (IsFirstBad c.args.made.table c.as_slice.result.now) (IsLedgerFault c.args.made.table limit (bodies_of bodies))
     (first_fault c.args.made.table limit c.as_slice.result.now (bodies_of bodies) (bodies_of (drop 1 bodies)) (with_first bodies v (nonzero (length bodies) (sym c.is_empty.ensures ∙ c.if-is_empty.false)) c.index-bodies-0.is ∙ ap (λ b. b ∷ bodies_of (drop 1 bodies)) (sym c.as_slice.ensures.value)))
     c.from_residual.ensures.1 c.in_err-check_made.ensures.fault
+
+pub read_rest-requires-clause-few : goal.read_rest-requires-clause-few
+read_rest-requires-clause-few c = (made_sized c.args.made c.requires.fits).copies

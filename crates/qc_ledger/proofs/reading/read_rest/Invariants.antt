@@ -1,5 +1,6 @@
--- What the bodies so far tell, which are in order.
+-- What the bodies so far tell, which are in order. The base of all is theirs.
 use Rattle.std.proofs.Common.{◌≡◌, ◌≤◌, take}
+use Rattle.qc_codec.specs.Base.{base_in, ledger_base}
 use Rattle.qc_codec.specs.Ledger.{AreInOrder, past_in}
 use Rattle.qc_journal.specs.Image.{bodies_of}
 use Rattle.qc_ledger.specs.Seen.{HasNumbers, told_by}
@@ -10,5 +11,6 @@ invariant-loop-index l = record {
   told : told_by l.seen ≡ past_in (bodies_of (take l.index l.bodies));
   order : AreInOrder (bodies_of (take l.index l.bodies));
   begun : 1 ≤ l.index;
+  base : base_in ledger_base (bodies_of (take l.index l.bodies)) ≡ base_in ledger_base (bodies_of l.bodies);
   numbers : HasNumbers l.seen;
 }
