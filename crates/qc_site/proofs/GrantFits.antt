@@ -1,6 +1,6 @@
 -- A grant of what was asked, with the tuple that its copy has then, fits the form in which grants are written. What the
 -- rules of histories do not say, the types of numbers do.
-use Rattle.std.proofs.Common.{◌≡◌, ℕ, ◌^◌, ◌<◌, length, sym, subst, arith}
+use Rattle.std.proofs.Common.{◌≡◌, ℕ, ◌^◌, ◌<◌, length, sym, subst}
 use Rattle.std.specs.Prelude.{slice_index}
 use Rattle.qc_config.proofs.Faults.{legal_faultless}
 use Rattle.qc_config.specs.declared.tuple.Tuple.{Tuple}

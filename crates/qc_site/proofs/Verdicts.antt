@@ -1,10 +1,10 @@
 -- Bodies of a copy's records have one verdict.
 use Rattle.std.proofs.Common.{◌≡◌, ◌≢◌, inl, inr, ℕ, ◌+◌, List, [], ◌∷◌, ◌++◌, length, refl, sym, ap, ap₂, ◌∙◌, subst, arith}
-use Rattle.std.specs.Prelude.{MatchOption, Some}
+use Rattle.std.specs.Prelude.{Some}
 use Rattle.std.proofs.lemmas.Bool.{cases_eq}
 use Rattle.qc_event.specs.declared.table.Table.{Table}
 use Rattle.qc_codec.specs.Bodies as body
-use Rattle.qc_codec.specs.Copy.{IsMadeOf, IsOutOfOrder, MayStand}
+use Rattle.qc_codec.specs.Copy.{IsOutOfOrder, MayStand}
 use Rattle.qc_codec.specs.Form.{all_of}
 use Rattle.qc_codec.specs.Ledger.{made_for}
 use Rattle.qc_codec.specs.declared.image.ImageFault.{ImageFault}
@@ -16,6 +16,7 @@ use Rattle.qc_journal.specs.Image.{HasRecords}
 use Rattle.qc_ledger.specs.Image.{IsFirstFault}
 use Rattle.qc_ledger.proofs.Verdicts.{first_is_one, first_or_else, same_place}
 use Rattle.qc_site.specs.Image.{AreMadeFor, AreMountableAsCopy, IsCopyFault}
+use Rattle.qc_site.proofs.Rests.{made_stands}
 
 module _ (copy : ℕ) where
   same_table : (bodies : List (List ℕ)) (t k : Table) → bodies ≢ [] → AreMadeFor copy t bodies → AreMadeFor copy k bodies → k ≡ t
@@ -26,13 +27,10 @@ module _ (copy : ℕ) where
       ap (λ (m : Made). m.table) made
 
   module _ (table : Table) (past : Past) where
-    stands : (bytes : List ℕ) (k : Table) → all_of body.made bytes ≡ Some (made_for (copy + 1) k) → MayStand copy table past [] bytes
-    stands bytes k is = subst (λ o. MatchOption o ⊥ (IsMadeOf copy)) (sym is) refl
-
     first_by : (bodies before after : List (List ℕ)) (bytes : List ℕ) (k : Table) → AreMadeFor copy k bodies → bodies ≡ before ++ bytes ∷ after → length before ≡ 0 → (MayStand copy table past before bytes → ⊥) → ⊥
     first_by [] [] after bytes k made split size breaks = absurd cc
     first_by [] (b ∷ before) after bytes k made split size breaks = absurd cc
-    first_by (f ∷ bodies) [] after bytes k made split size breaks = let same : f ≡ bytes = cc in breaks (stands bytes k (subst (λ (x : List ℕ). all_of body.made x ≡ Some (made_for (copy + 1) k)) same made))
+    first_by (f ∷ bodies) [] after bytes k made split size breaks = let same : f ≡ bytes = cc in breaks (made_stands copy table past bytes k (subst (λ (x : List ℕ). all_of body.made x ≡ Some (made_for (copy + 1) k)) same made))
     first_by (f ∷ bodies) (b ∷ before) after bytes k made split size breaks = absurd (omega (arith, size))
 
     first_stands : (bodies : List (List ℕ)) (k : Table) (i : ℕ) → AreMadeFor copy k bodies → IsOutOfOrder copy table past i bodies → i ≡ 0 → ⊥

@@ -1,5 +1,5 @@
 -- A site: what it has in hand, what it enters, and what its disk keeps.
-use Rattle.std.specs.Prelude.{ℕ, ◌≡◌, ◌⊎◌, List, [], ◌∷◌, length, Option, None, Some, IfSome, Err}
+use Rattle.std.specs.Prelude.{ℕ, ◌≡◌, ◌⊎◌, List, [], ◌∷◌, Option, None, Some, IfSome, Err}
 use Rattle.qc_config.specs.declared.tuple.Tuple.{Tuple}
 use Rattle.qc_event.specs.Base.{Setting}
 use Rattle.qc_event.specs.Dead.{dead}

@@ -1,13 +1,12 @@
 //! Mounting a copy's disk.
-ghost use Rattle.std.specs.Prelude.{ℕ, ◌≡◌, ◌<◌, ◌≤◌, List, length, map, IfOk, IfErr, IsSome, OnOk, IsErrOf, IsErrAnd};
+ghost use Rattle.std.specs.Prelude.{ℕ, ◌≡◌, ◌<◌, ◌≤◌, List, length, IfOk, IfErr, IsSome, OnOk, IsErrOf, IsErrAnd};
 ghost use Rattle.qc_disk.specs.Disk.{CountsOnce, HasCause, LeavesOnly, Grows};
+ghost use Rattle.qc_codec.specs.Base.{base_in, copy_base, tuples_of_base};
 ghost use Rattle.qc_codec.specs.Bodies as body;
 ghost use Rattle.qc_codec.specs.Copy.{grant_form};
 ghost use Rattle.qc_codec.specs.Ledger.{readings};
 ghost use Rattle.qc_codec.specs.Restored.{restored_row};
 ghost use Rattle.qc_desk.specs.Held.{from_row};
-ghost use Rattle.qc_event.specs.Base.{start_tuple};
-ghost use Rattle.qc_event.specs.Tables.{base_of, first_tuple};
 ghost use Rattle.qc_journal.specs.Image.{HasAt, bodies_of};
 ghost use Rattle.qc_journal.specs.Journal.{disk_of, limit_of, IsUp, Keeps};
 ghost use Rattle.qc_ledger.specs.Mounted.{MountLeaves, HasSome};
@@ -42,7 +41,7 @@ fn made_of(alloc: Global, copy: u8, table: &Table) -> Result<Body, AllocError>
     write_made(alloc, &made)
 }
 
-// Reads what the bodies grant, and writes how the disk was made, where there are none.
+// Reads what the bodies tell, and writes how the disk was made, where there are none.
 fn begin<D: Disk>(
     alloc: Global,
     journal: &mut Journal<D>,
@@ -57,7 +56,8 @@ fn begin<D: Disk>(
     requires proper { (body.table 1).fits table.now }
     ensures up { OnOk result (IsUp journal.new) }
     ensures start { IfOk result (λ start. start ≡ restored_row past.now.tops
-        (length table.now.records) (from_row (map first_tuple table.now.records))
+        (length table.now.records)
+        (from_row (tuples_of_base table.now (base_in copy_base (bodies_of bodies.old.items))))
         (readings (grant_form table.now) (bodies_of bodies.old.items))) }
     ensures granted { OnOk result (AreGranted copy table.now past.now
         (bodies_of bodies.old.items)) }
@@ -80,8 +80,8 @@ fn begin<D: Disk>(
     ensures counts_once { CostsOnce journal.old journal.new (IsErrOf result SiteNo.Disk) }
 {
     let made = made_of(alloc, copy, table)?;
-    let grants = grants_of(alloc, copy, table, past, &made, bodies)?;
-    let start = restored_beginning(alloc, table, past.tops.as_slice(), &grants)?;
+    let told = grants_of(alloc, copy, table, past, &made, bodies)?;
+    let start = restored_beginning(alloc, table, past.tops.as_slice(), &told.base, &told.grants)?;
     match make(journal, bodies, made) {
         Ok(()) => Ok(start),
         Err(fault) => Err(mount_no(copy, fault)),
@@ -111,9 +111,10 @@ pub fn mount<D: Disk>(
     ensures limit { IfOk result (λ mounted. limit_of (journal_of mounted) ≡ limit) }
     ensures up { IfOk result (λ mounted. IsUp (journal_of mounted)) }
 
-    // It starts with what its records restore, by the tops that were logged.
+    // It starts with what its records restore, by the tops that were logged, from the tuples of its base.
     ensures start { IfOk result (λ mounted. start_of mounted ≡ restored_row past.now.tops
-        (length table.now.records) (start_tuple (base_of table.now) copy)
+        (length table.now.records)
+        (from_row (tuples_of_base table.now (base_in copy_base (records_of mounted))))
         (readings (grant_form table.now) (records_of mounted))) }
 
     // Where the disk tells its bytes, each image has these records from now on.

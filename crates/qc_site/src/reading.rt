@@ -1,6 +1,7 @@
 //! What the bodies of a copy's journal tell, held to its grammar.
-ghost use Rattle.std.specs.Prelude.{ℕ, ◌≡◌, ◌+◌, ◌<◌, ◌≤◌, ◌↔◌, ◌++◌, ◌∷◌, [], IfOk, IfErr, OnOk, IsTrue, MatchOption, Some, length, slice_index_or};
+ghost use Rattle.std.specs.Prelude.{ℕ, ◌≡◌, ◌+◌, ◌<◌, ◌≤◌, ◌↔◌, ◌++◌, ◌∷◌, [], IfOk, IfErr, OnOk, IsTrue, MatchOption, Some, if◌then◌else◌, is_some, length, slice_index_or};
 ghost use Rattle.std.specs.Bool.{OnTrue};
+ghost use Rattle.qc_codec.specs.Base.{base_in, copy_base, epoch_of_base, tuples_of_base};
 ghost use Rattle.qc_codec.specs.Bodies as body;
 ghost use Rattle.qc_codec.specs.Copy.{grant_form, AreInOrder, MayFollow, MayStand};
 ghost use Rattle.qc_codec.specs.Form.{all_of};
@@ -8,16 +9,25 @@ ghost use Rattle.qc_codec.specs.Ledger.{made_for, readings};
 ghost use Rattle.qc_codec.specs.declared.past.Past.{Past};
 ghost use Rattle.qc_journal.specs.Image.{bodies_of};
 ghost use Rattle.qc_site.specs.Granted.{given_by, HasAccesses};
-ghost use Rattle.qc_site.specs.Image.{made_body, AreGranted, IsCopyFault};
+ghost use Rattle.qc_site.specs.Image.{made_body, AreGranted, AreMadeFor, IsCopyFault};
 ghost use Rattle.qc_site.specs.Reading.{IsFirstBad, IsLaterBad};
 ghost use Rattle.qc_site.specs.Refusing.{IsOfBytes};
 
 use crate::fault::{SiteNo, image_no};
 use crate::granted::Granted;
-use qc_codec::{CodecNo, ImageFault, Past, copy_table, read_grant, read_made};
+use qc_codec::{
+    BaseRecord, CodecNo, ImageFault, Past, copy_table, read_base, read_grant, read_made,
+};
 use qc_event::{Grant, Short, Table};
 use qc_journal::Body;
 use std::alloc::{AllocError, Global};
+
+/// What the bodies of a copy's journal tell: the base, where there is one, and the grants.
+#[derive(Drop)]
+pub(crate) struct Told {
+    pub(crate) base: Option<BaseRecord>,
+    pub(crate) grants: Vec<Grant>,
+}
 
 // Holds the first body to how the disk was made, by its spelling.
 fn check_made(
@@ -49,34 +59,84 @@ fn check_made(
     }
 }
 
-// Takes in the grant that bytes are, where it is one that may stand behind those before it.
+// The base that the second body is, where it is one.
+fn read_second(
+    alloc: Global,
+    copy: u8,
+    table: &Table,
+    past: &Past,
+    bodies: &[Body],
+) -> Result<Option<BaseRecord>, SiteNo>
+    requires copy { copy < 16 }
+    requires few { table.now.copies ≤ 16 }
+    requires small { length table.now.records < 256 }
+    requires made { AreMadeFor copy table.now (bodies_of bodies.now) }
+    ensures base { IfOk result (λ base. base ≡ base_in copy_base (bodies_of bodies.now)) }
+    ensures old { IfOk result (λ base. epoch_of_base base ≤ past.now.epoch) }
+    ensures sized { IfOk result (λ base. length (tuples_of_base table.now base)
+        ≡ length table.now.records) }
+    ensures fault { IfErr result (IsOfBytes copy
+        (IsLaterBad copy table.now past.now (bodies_of bodies.now))) }
+{
+    if bodies.len() < 2 {
+        return Ok(None);
+    }
+    let records = table.records.as_slice().len() as u8;
+    match read_base(alloc, bodies[1].as_slice(), table.copies, records) {
+        Ok(base) if base.epoch <= past.epoch => Ok(Some(base)),
+        Ok(_) => Err(image_no(copy, ImageFault::Grammar { index: 1 })),
+        Err(CodecNo::Bad) => Ok(None),
+        Err(CodecNo::Memory) => Err(SiteNo::Short(Short::Memory)),
+    }
+}
+
+// The epoch of a base, 0 where there is none.
+fn epoch_of(base: &Option<BaseRecord>) -> u32
+    ensures { result ≡ epoch_of_base base.now }
+{
+    match base {
+        Some(base) => base.epoch,
+        None => 0,
+    }
+}
+
+// How many bodies stand in front of the grants.
+fn in_front(base: &Option<BaseRecord>) -> usize
+    ensures { result ≡ if is_some base.now then 2 else 1 }
+{
+    if base.is_some() { 2 } else { 1 }
+}
+
+// Takes in the grant that bytes are, where it is one that may stand behind a base of this epoch and those before it.
 fn take_next(
     granted: &mut Granted,
     table: &Table,
     past: &Past,
+    base: u32,
     bytes: &[u8],
 ) -> Result<bool, AllocError>
     requires accesses { HasAccesses granted.old }
     requires few { table.now.copies ≤ 16 }
     ensures tells { IfOk result (λ taken. IsTrue taken ↔ MatchOption
         (all_of (grant_form table.now) bytes.now) ⊥
-        (MayFollow table.now past.now (given_by granted.old))) }
+        (MayFollow table.now past.now base (given_by granted.old))) }
     ensures taken { IfOk result (λ taken. OnTrue taken (given_by granted.new ≡ given_by granted.old
         ++ readings (grant_form table.now) (bytes.now ∷ []))) }
     ensures accesses { IfOk result (λ taken. OnTrue taken (HasAccesses granted.new)) }
 {
     match read_grant(bytes, table.copies) {
-        Ok(grant) => granted.take(table, past, grant),
+        Ok(grant) => granted.take(table, past, base, grant),
         Err(_) => Ok(false),
     }
 }
 
-// What the bodies behind the first grant, where each may stand behind those before it.
+// What the bodies behind the first and the base grant, where each may stand behind those before it.
 fn read_rest(
     alloc: Global,
     copy: u8,
     table: &Table,
     past: &Past,
+    base: &Option<BaseRecord>,
     bodies: &[Body],
 ) -> Result<Granted, SiteNo>
     requires copy { copy < 16 }
@@ -84,15 +144,18 @@ fn read_rest(
     requires some { 0 < length bodies.now }
     requires made { MayStand copy table.now past.now [] (slice_index_or (bodies_of bodies.now) 0
         []) }
+    requires base { base.now ≡ base_in copy_base (bodies_of bodies.now) }
+    requires old { epoch_of_base base.now ≤ past.now.epoch }
     ensures told { IfOk result (λ granted. given_by granted ≡ readings (grant_form table.now)
         (bodies_of bodies.now)) }
     ensures order { OnOk result (AreInOrder copy table.now past.now (bodies_of bodies.now)) }
     ensures fault { IfErr result (IsOfBytes copy
         (IsLaterBad copy table.now past.now (bodies_of bodies.now))) }
 {
+    let epoch = epoch_of(base);
     let mut granted = Granted::new(alloc);
-    for index in 1..bodies.len() {
-        if !take_next(&mut granted, table, past, bodies[index].as_slice())? {
+    for index in in_front(base)..bodies.len() {
+        if !take_next(&mut granted, table, past, epoch, bodies[index].as_slice())? {
             let index = index as u64;
             return Err(image_no(copy, ImageFault::Grammar { index }));
         }
@@ -100,7 +163,7 @@ fn read_rest(
     Ok(granted)
 }
 
-/// What bodies grant, where they are a copy's for a table, in order behind a past.
+/// What bodies tell, where they are a copy's for a table, in order behind a past. A base has a tuple for each record.
 pub(crate) fn grants_of(
     alloc: Global,
     copy: u8,
@@ -108,21 +171,29 @@ pub(crate) fn grants_of(
     past: &Past,
     spelled: &[u8],
     bodies: &[Body],
-) -> Result<Vec<Grant>, SiteNo>
+) -> Result<Told, SiteNo>
     requires copy { copy < 16 }
     requires fits { (body.table 1).fits table.now }
     requires few { table.now.copies ≤ 16 }
     requires spelled { spelled.now ≡ made_body copy table.now }
-    ensures told { IfOk result (λ grants. grants.items ≡ readings (grant_form table.now)
+    ensures told { IfOk result (λ told. told.grants.items ≡ readings (grant_form table.now)
         (bodies_of bodies.now)) }
+    ensures base { IfOk result (λ told. told.base ≡ base_in copy_base (bodies_of bodies.now)) }
+    ensures sized { IfOk result (λ told. length (tuples_of_base table.now told.base)
+        ≡ length table.now.records) }
     ensures granted { OnOk result (AreGranted copy table.now past.now (bodies_of bodies.now)) }
     ensures fault { (limit : ℕ) → IfErr result (IsOfBytes copy
         (IsCopyFault copy table.now past.now limit (bodies_of bodies.now))) }
 {
     if bodies.is_empty() {
-        return Ok(Vec::new(alloc));
+        return Ok(Told {
+            base: None,
+            grants: Vec::new(alloc),
+        });
     }
     check_made(alloc, copy, table, bodies[0].as_slice(), spelled)?;
-    let granted = read_rest(alloc, copy, table, past, bodies)?;
-    Ok(granted.into_grants())
+    let base = read_second(alloc, copy, table, past, bodies)?;
+    let granted = read_rest(alloc, copy, table, past, &base, bodies)?;
+    let grants = granted.into_grants();
+    Ok(Told { base, grants })
 }

@@ -1,10 +1,13 @@
-use Rattle.std.proofs.Common.{◌<◌, ◌≤◌, ◌∙◌, ℕ, length, ap, arith, sym, subst}
+use Rattle.std.proofs.Common.{◌<◌, ◌≤◌, ◌∙◌, ℕ, List, length, ap, ap₂, arith, sym, subst}
+use Rattle.std.specs.Prelude.{Option}
+use Rattle.qc_codec.specs.Base.{base_in, copy_base, tuples_of_base}
 use Rattle.qc_codec.specs.Copy.{grant_form}
 use Rattle.qc_codec.specs.Ledger.{readings}
 use Rattle.qc_codec.specs.Restored.{restored_row}
 use Rattle.qc_disk.specs.Disk.{Grows, LeavesOnly}
-use Rattle.qc_event.specs.Base.{start_tuple}
-use Rattle.qc_event.specs.Tables.{base_of}
+use Rattle.qc_codec.specs.declared.record.BaseRecord.{BaseRecord}
+use Rattle.qc_desk.specs.Held.{from_row}
+use Rattle.qc_event.specs.declared.event.Grant.{Grant}
 use Rattle.qc_journal.specs.Image.{HasAt, bodies_of}
 use Rattle.qc_journal.specs.Journal.{Keeps, disk_of, limit_of}
 use Rattle.qc_journal.proofs.Moments.{continues, grows_on}
@@ -13,8 +16,7 @@ use Rattle.qc_ledger.specs.Mounted.{HasSome, MountLeaves}
 use Rattle.qc_site.specs.Refusing.{IsCopyRefusal}
 use Rattle.qc_ledger.proofs.Mounts.{leaves_first, leaves_then, fine_told}
 use Rattle.qc_site.proofs.Faults.{begin_refusal, few_copies, made_proper, mount_refusal}
-use Rattle.qc_site.proofs.Rests.{written_none}
-use Rattle.qc_site.proofs.Rows.{start_is}
+use Rattle.qc_site.proofs.Rests.{written_base, written_none}
 use Rattle.qc_site.proofs.mounting.mount.Goals as goal
 
 pub returns-in-Err-clause-refused : goal.returns-in-Err-clause-refused
@@ -100,8 +102,8 @@ returns-in-Ok-begin-clause-start g c =
     let form = grant_form table in
     let fits = made_proper copy table (few copy table.copies c.requires.copy (few_copies table c.requires.proper)) c.requires.proper in
     c.in-Ok-begin.ensures.start
-    ∙ start_is table copy past.tops (readings form found) c.requires.copy
-    ∙ ap (restored_row past.tops (length table.records) (start_tuple (base_of table) copy))
+    ∙ ap₂ (λ (base : Option BaseRecord) (gs : List Grant). restored_row past.tops (length table.records) (from_row (tuples_of_base table base)) gs)
+    (sym (written_base copy table found) ∙ ap (base_in copy_base) (sym c.in-Ok-begin.ensures.bodies))
     (sym (written_none copy table past fits found) ∙ ap (readings form) (sym c.in-Ok-begin.ensures.bodies))
 
 pub invariant_of-result : goal.invariant_of-result

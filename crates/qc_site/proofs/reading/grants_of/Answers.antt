@@ -5,6 +5,7 @@ use Rattle.qc_event.proofs.Numbers.{nonzero}
 use Rattle.qc_ledger.proofs.Firsts.{with_first}
 use Rattle.qc_site.specs.Image.{IsCopyFault}
 use Rattle.qc_site.specs.Reading.{IsFirstBad}
+use Rattle.qc_codec.proofs.Fits.{table_sized}
 use Rattle.qc_site.proofs.Faults.{first_fault, handed_on}
 use Rattle.qc_site.proofs.reading.grants_of.Goals as goal
 
@@ -18,3 +19,6 @@ returns-in_err-check_made-clause-fault c = λ limit.
     handed_on copy c.from_residual.result c.in_err-check_made.field-0.0 (IsFirstBad copy table past c.as_slice.result.now) (IsCopyFault copy table past limit (bodies_of bodies))
     (first_fault copy table past limit c.as_slice.result.now (bodies_of bodies) (bodies_of (drop 1 bodies)) (with_first bodies v (nonzero (length bodies) (sym c.is_empty.ensures ∙ c.if-is_empty.false)) c.index-bodies-0.is ∙ ap (λ (b : List ℕ). b ∷ bodies_of (drop 1 bodies)) (sym c.as_slice.ensures.value)))
     c.from_residual.ensures.1 (c.in_err-check_made.ensures.fault past)
+
+pub read_second-requires-clause-small : goal.read_second-requires-clause-small
+read_second-requires-clause-small c = (table_sized c.args.table.now c.requires.fits).records

@@ -1,5 +1,6 @@
--- What the bodies so far grant, which are in order.
+-- What the bodies so far tell, which are in order.
 use Rattle.std.proofs.Common.{◌≡◌, ◌≤◌, take}
+use Rattle.qc_codec.specs.Base.{base_in, copy_base}
 use Rattle.qc_codec.specs.Copy.{grant_form, AreInOrder}
 use Rattle.qc_codec.specs.Ledger.{readings}
 use Rattle.qc_journal.specs.Image.{bodies_of}
@@ -10,6 +11,7 @@ abbrev pub invariant-loop-index : goal.invariant-loop-index
 invariant-loop-index l = record {
   told : given_by l.granted ≡ readings (grant_form l.table) (bodies_of (take l.index l.bodies));
   order : AreInOrder l.copy l.table l.past (bodies_of (take l.index l.bodies));
+  based : base_in copy_base (bodies_of (take l.index l.bodies)) ≡ l.base;
   begun : 1 ≤ l.index;
   accesses : HasAccesses l.granted;
 }

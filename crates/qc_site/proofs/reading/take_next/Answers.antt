@@ -8,5 +8,5 @@ use Rattle.qc_site.proofs.reading.take_next.Goals as goal
 
 pub returns-in-Ok-clause-tells : goal.returns-in-Ok-clause-tells
 returns-in-Ok-clause-tells c =
-    subst (λ (o : Option Grant). IfOk c.take.result (λ taken. IsTrue taken ↔ MatchOption o ⊥ (MayFollow c.args.table.now c.args.past.now (given_by c.args.granted.now))))
+    subst (λ (o : Option Grant). IfOk c.take.result (λ taken. IsTrue taken ↔ MatchOption o ⊥ (MayFollow c.args.table.now c.args.past.now c.args.base (given_by c.args.granted.now))))
     (sym c.in-Ok.ensures.exact) c.take.ensures.tells
