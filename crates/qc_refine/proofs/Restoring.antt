@@ -3,8 +3,8 @@ pub mod BelowReady
 pub mod LoggedTops
 pub mod RestoredTuples
 pub mod RestoredSound
-pub mod ImageReadings
-pub mod RestoredImages
 pub mod ListedNames
 pub mod FoldedPairs
+pub mod ImageReadings
+pub mod RestoredImages
 pub mod PairImages

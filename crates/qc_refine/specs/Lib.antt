@@ -7,6 +7,6 @@ pub mod Final
 pub mod Restored
 pub mod Listed
 pub mod Standing
-pub mod Images
 pub mod Folded
+pub mod Images
 pub mod Pairs

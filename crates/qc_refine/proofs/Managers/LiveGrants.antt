@@ -20,7 +20,7 @@ use Rattle.qc_event.specs.declared.event.Kind.{Kind}
 use Rattle.qc_event.specs.declared.event.Kind.TheVariants as kind
 use Rattle.qc_event.specs.Base.{Setting, first_of, no_tuple, start_tuple}
 use Rattle.qc_event.specs.Dead.{dead}
-use Rattle.qc_event.specs.History.{Past, Name, Begun, Given, Asked, same, start, end, asked, ask_in, ask_below, granted, grants, is_child}
+use Rattle.qc_event.specs.History.{Past, Name, Begun, Given, Asked, same, start, asked, ask_in, ask_below, granted, grants, is_child}
 use Rattle.qc_event.specs.Legal.{Legal}
 use Rattle.qc_event.specs.Manager.{Newest, Greatest, newer, record_of, first_for, all_copies}
 use Rattle.qc_event.specs.Requests.{MayAsk}

@@ -1,11 +1,13 @@
 -- What images restore that stand beside a legal history is one base, and sound for the values after it.
-use Rattle.std.proofs.Common.{◌≡◌, ℕ, zero, suc, ◌+◌, ◌<◌, inl, inr, List, [], length, get_or, refl, sym, ap, ◌∙◌, subst, arith, append-nil}
+use Rattle.std.proofs.Common.{◌≡◌, ℕ, zero, suc, ◌+◌, ◌<◌, inl, inr, List, [], ◌++◌, length, get_or, refl, sym, ap, ◌∙◌, subst, arith, append-nil}
 use mathlib.Core.Bool.{true≢false}
 use Rattle.std.specs.Prelude.{map, Some}
 use Rattle.std.proofs.lemmas.Bool.{cases_lt}
 use Rattle.std.proofs.lemmas.List.{get_or_past, get_or-replicate, length-map, length-replicate}
 use Rattle.std.proofs.lemmas.List.Elements.{All-nil}
-use Rattle.std.proofs.lemmas.List.FromFn.{get_or-map-range_with_len}
+use Rattle.std.proofs.lemmas.List.FromFn.{get_or-map-range_with_len, length-map-range_with_len}
+use Rattle.qc_codec.specs.Base.{base_in, copy_base, tuples_of_base}
+use Rattle.qc_codec.specs.Copy.{grant_form}
 use Rattle.qc_codec.specs.Ledger.{readings}
 use Rattle.qc_config.specs.declared.tuple.Tuple.{Tuple}
 use Rattle.qc_event.specs.declared.table.Row.{Row}
@@ -19,14 +21,43 @@ use Rattle.qc_event.specs.Tables.{base_of, first_tuple, setting_of}
 use Rattle.qc_journal.proofs.Readings.{records-same}
 use Rattle.qc_journal.specs.Image.{HasRecords}
 use Rattle.qc_serial.specs.Serial.{final_values}
-use Rattle.qc_codec.specs.Copy.{grant_form}
-use Rattle.qc_refine.specs.Images.{AreFresh, CarryFinal, IsStanding, Restores, kept_in}
-use Rattle.qc_refine.specs.Restored.{granted_at, restored, restored_setting}
+use Rattle.qc_refine.specs.Folded.{AreFoldedPairs, IsOpenPair, begins}
+use Rattle.qc_refine.specs.Images.{AreFresh, CarryFinal, IsCopyImage, IsStanding, Restores, first_of, kept_in}
+use Rattle.qc_refine.specs.Listed.{logged}
+use Rattle.qc_refine.specs.Restored.{Kept, granted_at, restored, restored_setting}
 use Rattle.qc_refine.specs.Standing.{StandBeside, committed_too}
 use Rattle.qc_refine.proofs.Copies.Grids.{grid_is}
-use Rattle.qc_refine.proofs.Restoring.ImageReadings.{copy_told, ledger_told}
 use Rattle.qc_refine.proofs.Order.LastValues.{last_value}
-use Rattle.qc_refine.proofs.Restoring.RestoredSound.{restored_sound}
+use Rattle.qc_refine.proofs.Restoring.FoldedPairs.{folded_sound}
+use Rattle.qc_refine.proofs.Restoring.ImageReadings.{copy_tells, copy_told, ledger_tells, ledger_told}
+
+-- WHAT IS CARRIED
+
+-- What disks restore whose pairs are as they were or were folded carries the serial machine's values.
+module _ (table : Table) (base : List (List Tuple)) (epoch : ℕ) (past : Past) (first : List (List Tuple)) (before now : Kept) (beside : StandBeside first epoch (setting_of table base) before now past)
+    (first' : List (List Tuple)) (now' : Kept) (folded : AreFoldedPairs (setting_of table base) past first first' now now') (tuples : List (List Tuple)) (same : tuples ≡ restored first' (length table.records) now')
+    (values : List ℕ) (legal : Legal (setting_of table base) past) (sound : IsSound (setting_of table base) values) where
+  abbrev finals : List ℕ
+  finals = final_values values (committed_too past beside.more)
+
+  same_setting : restored_setting first' (setting_of table base) now' ≡ setting_of table tuples
+  same_setting =
+      ap (λ n. setting_of table (restored first' n now')) (length-map table.records (λ (row : Row). row.config))
+      ∙ ap (setting_of table) (sym same)
+
+  tuples_sound : IsSound (setting_of table tuples) finals
+  tuples_sound =
+      subst (λ s. IsSound s finals) same_setting
+      (folded_sound first epoch (setting_of table base) before now past legal beside first' now' folded values sound)
+
+  pub folded_carry : CarryFinal table values (committed_too past beside.more) tuples
+  folded_carry = record {
+    sound = tuples_sound;
+    greatest = λ rec there.
+        last_value (setting_of table tuples) finals [] rec tt tuples_sound
+        (let many = length-map table.records (λ (row : Row). row.config) in omega (arith, many, there))
+        ∙ ap (λ (ts : List Tuple). Some (greatest_among ts).value) (append-nil (column tuples rec));
+  }
 
 module _ (table : Table) (images : List (List ℕ)) where
   abbrev image : ℕ → List ℕ
@@ -38,7 +69,7 @@ module _ (table : Table) (images : List (List ℕ)) where
   same_bodies one two r s = λ i number. records-same (image number) (s.bodies number) (r.bodies number) (s.has number) (r.has number) i
 
   pub restore_one : (one two : List (List Tuple)) → Restores table images one → Restores table images two → one ≡ two
-  restore_one one two r s = r.same ∙ ap (λ bodies. restored (base_of table) (length table.records) (kept_in table bodies)) (same_bodies one two r s) ∙ sym s.same
+  restore_one one two r s = r.same ∙ ap (λ bodies. restored (first_of table bodies) (length table.records) (kept_in table bodies)) (same_bodies one two r s) ∙ sym s.same
 
   module _ (base : List (List Tuple)) (epoch : ℕ) (past : Past) (standing : IsStanding table base epoch past images) where
     -- each image has records
@@ -52,50 +83,36 @@ module _ (table : Table) (images : List (List ℕ)) where
     pub restore_some : (tuples : List (List Tuple)) × Restores table images tuples
     restore_some = (_, record { bodies = λ number. (read number).0; has = λ number. (read number).1; same = refl })
 
-    -- what is read stands beside the history
+    -- what is read is what stands beside the history
     module _ (tuples : List (List Tuple)) (r : Restores table images tuples) where
-      granted_is : (copy : ℕ) → copy < table.copies → granted_at (kept_in table r.bodies) copy ≡ granted_at standing.now copy
-      granted_is copy there =
-          get_or-map-range_with_len (λ c. readings (grant_form table) (r.bodies (c + 1))) 0 table.copies copy copy [] there (omega arith)
-          ∙ copy_told table (image (copy + 1)) (r.bodies (copy + 1)) (r.has (copy + 1)) copy (granted_at standing.now copy) (standing.copies copy there)
+      first_is : (copy : ℕ) → copy < table.copies → begins (first_of table r.bodies) copy ≡ tuples_of_base table (base_in copy_base (r.bodies (copy + 1)))
+      first_is copy there = get_or-map-range_with_len (λ c. tuples_of_base table (base_in copy_base (r.bodies (c + 1)))) 0 table.copies copy copy [] there (omega arith)
 
-      as_many : length (base_of table) ≡ table.copies
-      as_many = length-replicate table.copies (map first_tuple table.records)
+      granted_is : (copy : ℕ) → copy < table.copies → granted_at (kept_in table r.bodies) copy ≡ readings (grant_form table) (r.bodies (copy + 1))
+      granted_is copy there = get_or-map-range_with_len (λ c. readings (grant_form table) (r.bodies (c + 1))) 0 table.copies copy copy [] there (omega arith)
 
-      beside : StandBeside (base_of table) epoch (setting_of table base) standing.before (kept_in table r.bodies) past
-      beside = record {
-        starts = standing.beside.starts;
-        old_tops = standing.beside.old_tops;
-        old_grants = standing.beside.old_grants;
-        of_epoch = standing.beside.of_epoch;
-        more = standing.beside.more;
-        next = standing.beside.next;
-        tops = ledger_told table (image 0) (r.bodies 0) (r.has 0) epoch standing.before.tops _ standing.ledger;
-        untold = standing.beside.untold;
-        are_untold = standing.beside.are_untold;
-        granted = λ copy there. granted_is copy (subst (λ n. copy < n) as_many there) ∙ standing.beside.granted copy there;
+      abbrev IsSame : ℕ → Type 0
+      IsSame = IsOpenPair (setting_of table base) past standing.first (first_of table r.bodies) standing.now (kept_in table r.bodies)
+
+      same_copy : (copy : ℕ) → copy < table.copies → IsSame copy
+      same_copy copy there =
+          let told = copy_told table (begins standing.first copy) (granted_at standing.now copy) (copy + 1) (r.bodies (copy + 1)) (copy_tells table (image (copy + 1)) (r.bodies (copy + 1)) (r.has (copy + 1)) copy _ _ (standing.copies copy there)) in
+          record { same_begin = first_is copy there ∙ told.1; same_grants = granted_is copy there ∙ told.0 }
+
+      same_tops : (kept_in table r.bodies).tops ≡ standing.now.tops
+      same_tops =
+          ledger_told table epoch standing.before.tops (logged past ++ standing.beside.more) 0 (r.bodies 0) (ledger_tells table (image 0) (r.bodies 0) (r.has 0) epoch _ _ standing.ledger)
+          ∙ sym standing.beside.tops
+
+      all_same : AreFoldedPairs (setting_of table base) past standing.first (first_of table r.bodies) standing.now (kept_in table r.bodies)
+      all_same = record {
+        many = length-map-range_with_len (λ c. tuples_of_base table (base_in copy_base (r.bodies (c + 1)))) 0 table.copies ∙ sym standing.many;
+        copies = λ copy there. inl (same_copy copy (subst (λ n. copy < n) standing.many there));
+        ledger = inl same_tops;
       }
 
-      same_setting : restored_setting (base_of table) (setting_of table base) (kept_in table r.bodies) ≡ setting_of table tuples
-      same_setting =
-          ap (λ n. setting_of table (restored (base_of table) n (kept_in table r.bodies))) (length-map table.records (λ (row : Row). row.config))
-          ∙ ap (setting_of table) (sym r.same)
-
-      module _ (values : List ℕ) (legal : Legal (setting_of table base) past) (sound : IsSound (setting_of table base) values) where
-        images_sound : IsSound (setting_of table tuples) (final_values values (committed_too past standing.beside.more))
-        unfolding beside
-        images_sound =
-            subst (λ s. IsSound s (final_values values (committed_too past standing.beside.more))) same_setting
-            (restored_sound (base_of table) epoch (setting_of table base) standing.before (kept_in table r.bodies) past legal beside values sound)
-
-        pub carry_final : CarryFinal table values (committed_too past standing.beside.more) tuples
-        carry_final = record {
-          sound = images_sound;
-          greatest = λ rec there.
-              last_value (setting_of table tuples) (final_values values (committed_too past standing.beside.more)) [] rec tt images_sound
-              (let many = length-map table.records (λ (row : Row). row.config) in omega (arith, many, there))
-              ∙ ap (λ (ts : List Tuple). Some (greatest_among ts).value) (append-nil (column tuples rec));
-        }
+      pub carry_final : (values : List ℕ) → Legal (setting_of table base) past → IsSound (setting_of table base) values → CarryFinal table values (committed_too past standing.beside.more) tuples
+      carry_final values legal sound = folded_carry table base epoch past standing.first standing.before standing.now standing.beside (first_of table r.bodies) (kept_in table r.bodies) all_same tuples r.same values legal sound
 
 -- FRESH IMAGES
 
@@ -119,6 +136,7 @@ module _ (table : Table) where
   -- fresh images stand beside the empty history
   pub fresh_stand : (images : List (List ℕ)) → AreFresh table images → IsStanding table first 1 [] images
   fresh_stand images fresh = record {
+    first = first;
     before = record { tops = []; granted = [] };
     now = record { tops = []; granted = [] };
     beside = record {
@@ -133,7 +151,8 @@ module _ (table : Table) where
       are_untold = λ copy there. All-nil _;
       granted = λ copy there. refl;
     };
+    many = length-replicate table.copies row;
     as_many = fresh.as_many;
     ledger = fresh.ledger;
-    copies = fresh.copies;
+    copies = λ copy there. subst (λ begin. IsCopyImage table copy begin [] (get_or images (copy + 1) [])) (sym (get_or-replicate table.copies copy row [] there)) (fresh.copies copy there);
   }
