@@ -5,13 +5,13 @@ use Rattle.std.proofs.lemmas.List.{length-map}
 use Rattle.qc_config.specs.declared.tuple.Tuple.{Tuple}
 use Rattle.qc_disk.specs.Disk.{DiskView}
 use Rattle.qc_disk.specs.declared.disk.Disk.{Ghosts}
+use Rattle.qc_codec.specs.Base.{base_in, copy_base, tuples_of_base}
 use Rattle.qc_codec.specs.Bodies as body
 use Rattle.qc_codec.specs.Copy.{grant_form}
 use Rattle.qc_codec.specs.Ledger.{readings}
 use Rattle.qc_codec.specs.Restored.{restored_row}
 use Rattle.qc_event.specs.declared.table.Table.{Table}
-use Rattle.qc_event.specs.Base.{start_tuple}
-use Rattle.qc_event.specs.Tables.{base_of}
+use Rattle.qc_desk.specs.Held.{from_row}
 use Rattle.qc_journal.specs.Journal.{disk_of, limit_of}
 use Rattle.qc_journal.specs.Image.{HasRecords}
 use Rattle.qc_ledger.specs.Mounted as book
@@ -191,13 +191,14 @@ module _ {D : Type 0} {g : Ghosts D} where
               (subst (λ bs. copy.MountsCopy i table parts.past store.limit (g.view at.disk).content bs) (sym at.bodies) at.is_copy.mounts)
 
           starts : (i : ℕ) → i < table.copies
-              → slice_index_or base i [] ≡ restored_row parts.past.tops (length table.records) (start_tuple (base_of table) i) (readings (grant_form table) (bodies_found parts.book parts.copies.items (i + 1)))
+              → slice_index_or base i [] ≡ restored_row parts.past.tops (length table.records) (from_row (tuples_of_base table (base_in copy_base (bodies_found parts.book parts.copies.items (i + 1)))))
+              (readings (grant_form table) (bodies_found parts.book parts.copies.items (i + 1)))
           starts i there =
               let (m, is) = at_place parts.copies.items i (omega (arith, there, all)) in
               let at = copy_at i m is in
               ap (λ l. get_or l i []) rows
               ∙ (mapped_at start_of parts.copies.items i m [] is
-              ∙ (at.is_copy.start ∙ ap (λ bs. restored_row parts.past.tops (length table.records) (start_tuple (base_of table) i) (readings (grant_form table) bs)) (sym at.bodies)))
+              ∙ (at.is_copy.start ∙ ap (λ bs. restored_row parts.past.tops (length table.records) (from_row (tuples_of_base table (base_in copy_base bs))) (readings (grant_form table) bs)) (sym at.bodies)))
 
       -- the same, by slices of what was mounted
       pub mounted_by : (body.table 1).fits table → parts.epoch < 2 ^ 32 → (bodies : List (List ℕ)) → AreBytes bodies → bodies ≡ book.records_of parts.book

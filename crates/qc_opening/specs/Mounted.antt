@@ -1,13 +1,13 @@
 -- What the mounting of a store gives.
 use Rattle.std.specs.Prelude.{ℕ, ◌≡◌, ◌+◌, List, ◌∷◌, ◌++◌, length, Option, Result, Ok, Err, IsSome}
 use Rattle.qc_disk.specs.declared.disk.Disk.{Ghosts}
+use Rattle.qc_codec.specs.Base.{base_in, copy_base, tuples_of_base}
 use Rattle.qc_codec.specs.Copy.{grant_form}
 use Rattle.qc_codec.specs.Ledger.{readings}
 use Rattle.qc_codec.specs.Restored.{restored_row}
 use Rattle.qc_codec.specs.declared.past.Past.{Past}
-use Rattle.qc_event.specs.Base.{start_tuple}
-use Rattle.qc_event.specs.Tables.{base_of}
 use Rattle.qc_event.specs.declared.table.Table.{Table}
+use Rattle.qc_desk.specs.Held.{from_row}
 use Rattle.qc_journal.specs.Journal.{disk_of, limit_of, IsUp, Keeps}
 use Rattle.qc_ledger.specs.Image as ledger
 use Rattle.qc_ledger.specs.Mounted as book
@@ -41,7 +41,7 @@ module _ {D : Type 0} {g : Ghosts D} (table : Table) where
     pub copies : copy.copies_of mounted ≡ table.copies
     pub limit_is : limit_of (copy.journal_of mounted) ≡ limit
     pub up : IsUp (copy.journal_of mounted)
-    pub start : start_of mounted ≡ restored_row past.tops (length table.records) (start_tuple (base_of table) number) (readings (grant_form table) (copy.records_of mounted))
+    pub start : start_of mounted ≡ restored_row past.tops (length table.records) (from_row (tuples_of_base table (base_in copy_base (copy.records_of mounted)))) (readings (grant_form table) (copy.records_of mounted))
     pub keeps : IsSome (g.view disk).content → Keeps (copy.journal_of mounted) (copy.records_of mounted)
     pub disk_is : IsMounted g.view (site.to_write number table) ⊥ disk (copy_disk mounted)
 

@@ -1,5 +1,6 @@
 -- What the mountings of a store's disks found: disk 0 is the ledger's, disk c + 1 copy c's.
-use Rattle.std.specs.Prelude.{ℕ, ◌≡◌, ◌+◌, ◌<◌, ◌≤◌, ◌^◌, ◌⊎◌, List, [], ◌∷◌, length, slice_index_or, All, Option, IfSome, IsSome}
+use Rattle.std.specs.Prelude.{ℕ, ◌≡◌, ◌+◌, ◌<◌, ◌≤◌, ◌^◌, ◌⊎◌, List, [], ◌∷◌, length, map, slice_index_or, All, Option, IfSome, IsSome}
+use Rattle.qc_codec.specs.Base.{base_in, copy_base, tuples_of_base}
 use Rattle.qc_codec.specs.Bodies as body
 use Rattle.qc_codec.specs.Copy.{grant_form}
 use Rattle.qc_codec.specs.Ledger.{readings}
@@ -8,9 +9,9 @@ use Rattle.qc_codec.specs.declared.past.Logged.{Logged}
 use Rattle.qc_codec.specs.declared.past.Past.{Past as Logs}
 use Rattle.qc_config.specs.declared.tuple.Tuple.{Tuple}
 use Rattle.qc_event.specs.declared.table.Table.{Table}
-use Rattle.qc_event.specs.Base.{start_tuple}
 use Rattle.qc_event.specs.History.{Past}
-use Rattle.qc_event.specs.Tables.{base_of, setting_of}
+use Rattle.qc_event.specs.Tables.{first_tuple, setting_of}
+use Rattle.qc_desk.specs.Held.{from_row}
 use Rattle.qc_journal.specs.Image.{HasRecords}
 use Rattle.qc_ledger.specs.Image as tops
 use Rattle.qc_ledger.specs.Mounted as ledger
@@ -36,7 +37,7 @@ pub record IsMounted (table : Table) (told : ℕ → Option (List ℕ)) (records
   pub copies : (copy : ℕ) → copy < table.copies → copies.MountsCopy copy table past (limit (copy + 1)) (told (copy + 1)) (records (copy + 1))
   pub as_many : length base ≡ table.copies
   pub starts : (copy : ℕ) → copy < table.copies
-      → slice_index_or base copy [] ≡ restored_row past.tops (length table.records) (start_tuple (base_of table) copy) (readings (grant_form table) (records (copy + 1)))
+      → slice_index_or base copy [] ≡ restored_row past.tops (length table.records) (from_row (tuples_of_base table (base_in copy_base (records (copy + 1))))) (readings (grant_form table) (records (copy + 1)))
 
 -- Of each disk one image, which tells what the disk keeps of a history behind these records.
 pub record AreKept (table : Table) (base : List (List Tuple)) (records : ℕ → List (List ℕ)) (past : Past) (images : List (List ℕ)) : Type 0 where
@@ -48,7 +49,7 @@ pub record AreKept (table : Table) (base : List (List Tuple)) (records : ℕ →
 -- The copies' disks told images on which no grant stands: they were empty, or of a store that was just made.
 abbrev pub HaveNoGrants : Table → (ℕ → Option (List ℕ)) → Type 0
 HaveNoGrants table told = (copy : ℕ) → copy < table.copies
-    → IsSome (told (copy + 1)) × IfSome (told (copy + 1)) (λ image. HasRecords [] image ⊎ IsCopyImage table copy [] image)
+    → IsSome (told (copy + 1)) × IfSome (told (copy + 1)) (λ image. HasRecords [] image ⊎ IsCopyImage table copy (map first_tuple table.records) [] image)
 
 -- Tuples carry the serial machine's values after a history and the commits of tops that may come next.
 pub record CarryNext (table : Table) (values : List ℕ) (past : Past) (tuples : List (List Tuple)) : Type 0 where

@@ -1,26 +1,28 @@
 -- An image of a copy's disk tells what was found there, and what the copy granted since.
-use Rattle.std.proofs.Common.{◌≡◌, inl, inr, ℕ, ◌+◌, ◌≤◌, List, [], ◌∷◌, ◌++◌, length, refl, sym, ap, ap₂, ◌∙◌, subst, append-nil, arith}
+use Rattle.std.proofs.Common.{◌≡◌, inl, inr, ℕ, ◌+◌, ◌≤◌, List, [], ◌∷◌, ◌++◌, length, refl, sym, ap₂, ◌∙◌, subst, append-nil, arith}
 use Rattle.std.specs.Prelude.{map, is_some, true, Option, None, Some, IfSome, MatchOption, option_to_list}
 use Rattle.std.specs.List.{All}
-use Rattle.std.proofs.lemmas.List.{map-append}
 use Rattle.std.proofs.lemmas.List.Elements.{All-nil, All-cons, All-append, All-weaker}
+use Rattle.qc_config.specs.declared.tuple.Tuple.{Tuple}
 use Rattle.qc_event.specs.declared.event.Grant.{Grant}
 use Rattle.qc_event.specs.declared.table.Table.{Table}
 use Rattle.qc_event.specs.Base.{Setting}
 use Rattle.qc_event.specs.Grants.{MayGrant}
 use Rattle.qc_event.specs.History.{Asked, Past, asked, grants}
 use Rattle.qc_event.specs.Seats.{copy_seat}
+use Rattle.qc_codec.specs.Base.{copy_base}
 use Rattle.qc_codec.specs.Bodies as body
 use Rattle.qc_codec.specs.Copy.{grant_form}
 use Rattle.qc_codec.specs.Fields.{format_1}
 use Rattle.qc_codec.specs.Ledger.{made_for}
 use Rattle.qc_journal.specs.Image.{HasRecords}
-use Rattle.qc_refine.specs.Images.{IsCopyImage}
+use Rattle.qc_refine.specs.Images.{IsCopyBodies, IsCopyImage}
 use Rattle.qc_refine.specs.Standing.{IsAskedOf, IsUntold}
 use Rattle.qc_site.specs.Back.{grant_body}
 use Rattle.qc_ledger.specs.Since.{OrMore}
 use Rattle.qc_system.specs.Left.{KeepsGrants}
 use Rattle.qc_refine.proofs.Order.DonesWalk.{all_front}
+use Rattle.qc_opening.proofs.KeptDisks.Lists.{append_mapped}
 
 -- of one more that may stand behind some, what stands there
 pub record More {A : Type 0} (these : List A) (one : Option A) (P : A → Type 0) (all : List A) : Type 0 where
@@ -49,21 +51,20 @@ untold_grant setting past copy g may = record { asked = has_asked (asked past g.
 
 -- AN IMAGE
 
-module _ (setting : Setting) (table : Table) (copies copy : ℕ) (before : List (List ℕ)) (old : List Grant) (past : Past) (image : List ℕ) where
+module _ (setting : Setting) (table : Table) (copies copy : ℕ) (before : List (List ℕ)) (begin : List Tuple) (old : List Grant) (past : Past) (image : List ℕ) where
   -- What an image tells behind older grants: the copy's grants of the history, and at most one that is untold.
   pub record Tells : Type 0 where
     pub untold : List Grant
     pub are : All (IsUntold past) untold
     pub few : length untold ≤ 1
     pub asked : All (IsAskedOf past copy) untold
-    pub is_image : IsCopyImage table copy (old ++ (grants past copy ++ untold)) image
+    pub is_image : IsCopyImage table copy begin (old ++ (grants past copy ++ untold)) image
 
-  module _ (copies_are : copies ≡ table.copies) (spelled : before ≡ body.made.spell (made_for (copy + 1) table) ∷ map (grant_form table).spell old)
-      (made : body.made.fits (made_for (copy + 1) table)) (fit : All (grant_form table).fits old) where
-    bodies_are : (given : List Grant) → before ++ map (grant_body copies) given ≡ body.made.spell (made_for (copy + 1) table) ∷ map (grant_form table).spell (old ++ given)
+  module _ (copies_are : copies ≡ table.copies) (are : IsCopyBodies table begin old (copy + 1) before) where
+    bodies_are : (given : List Grant) → before ++ map (grant_body copies) given ≡ body.made.spell (made_for (copy + 1) table) ∷ (map (copy_base table).spell (option_to_list are.base) ++ map (grant_form table).spell (old ++ given))
     bodies_are given =
-        ap₂ (λ (b : List (List ℕ)) (n : ℕ). b ++ map (grant_body n) given) spelled copies_are
-        ∙ ap (λ (l : List (List ℕ)). body.made.spell (made_for (copy + 1) table) ∷ l) (sym (map-append (grant_form table).spell old given))
+        ap₂ (λ (b : List (List ℕ)) (n : ℕ). b ++ map (grant_body n) given) are.are copies_are
+        ∙ append_mapped (grant_form table).spell (body.made.spell (made_for (copy + 1) table)) (map (copy_base table).spell (option_to_list are.base)) old given
 
     tells : (given more : List Grant) → given ≡ grants past copy ++ more → All (MayGrant setting past (copy_seat copy) copy) more → length more ≤ 1 → All (body.grant (format_1 copies)).fits given → HasRecords (before ++ map (grant_body copies) given) image → Tells
     tells given more same may few fits has = record {
@@ -71,10 +72,17 @@ module _ (setting : Setting) (table : Table) (copies copy : ℕ) (before : List 
       are = All-weaker (MayGrant setting past (copy_seat copy) copy) (IsUntold past) (untold_grant setting past copy) more may;
       few = few;
       asked = All-weaker (MayGrant setting past (copy_seat copy) copy) (IsAskedOf past copy) (λ g is. is.request) more may;
-      is_image = subst (λ (gs : List Grant). IsCopyImage table copy (old ++ gs) image) same (record {
-        made_fits = made;
-        grants_fit = All-append (grant_form table).fits old given fit (subst (λ (n : ℕ). All (body.grant (format_1 n)).fits given) copies_are fits);
-        has = subst (λ (b : List (List ℕ)). HasRecords b image) (bodies_are given) has;
+      is_image = subst (λ (gs : List Grant). IsCopyImage table copy begin (old ++ gs) image) same (record {
+        bodies = before ++ map (grant_body copies) given;
+        tells = record {
+          base = are.base;
+          begin_is = are.begin_is;
+          made_fits = are.made_fits;
+          base_fits = are.base_fits;
+          grants_fit = All-append (grant_form table).fits old given are.grants_fit (subst (λ (n : ℕ). All (body.grant (format_1 n)).fits given) copies_are fits);
+          are = bodies_are given;
+        };
+        has = has;
       });
     }
 

@@ -1,84 +1,141 @@
--- The bodies of a mounted copy's disk spell how it was made, and what the copy granted.
-use Rattle.std.proofs.Common.{◌≡◌, ℕ, ◌+◌, ◌<◌, List, [], ◌∷◌, ◌++◌, length, refl, sym, ap, ap₂, ◌∙◌, subst, arith, append-nil}
-use Rattle.std.specs.Prelude.{map, Option, None, Some, MatchOption}
+-- The bodies of a mounted copy's disk spell how it was made, with what it begins, and what the copy granted.
+use Rattle.std.proofs.Common.{◌≡◌, ℕ, ◌+◌, ◌<◌, ◌≤◌, inl, inr, List, [], ◌∷◌, ◌++◌, length, get_or, refl, sym, ap, ap₂, ◌∙◌, subst, arith, append-nil}
+use Rattle.std.specs.Prelude.{map, Option, None, Some, MatchOption, option_to_list}
 use Rattle.std.specs.List.{All}
-use Rattle.std.proofs.lemmas.List.{map-append}
 use Rattle.std.proofs.lemmas.List.Elements.{All-nil, All-cons, All-append, All-head, All-tail}
+use Rattle.qc_config.specs.declared.tuple.Tuple.{Tuple}
 use Rattle.qc_event.specs.declared.event.Grant.{Grant}
 use Rattle.qc_event.specs.declared.table.Table.{Table}
+use Rattle.qc_event.specs.Tables.{first_tuple}
+use Rattle.qc_codec.specs.Base.{base_in, copy_base, epoch_of_base, tuples_of_base}
 use Rattle.qc_codec.specs.Bodies as body
 use Rattle.qc_codec.specs.Copy.{MayFollow, MayStand, grant_form}
 use Rattle.qc_codec.specs.Fields.{format_1}
 use Rattle.qc_codec.specs.Form.{all_of}
 use Rattle.qc_codec.specs.Ledger.{IsOld, made_for, readings}
 use Rattle.qc_codec.specs.declared.past.Past.{Past}
+use Rattle.qc_codec.specs.declared.record.BaseRecord.{BaseRecord}
+use Rattle.qc_codec.proofs.Bases.{base_behind}
 use Rattle.qc_codec.proofs.Bodies.{exact_grant, exact_made}
 use Rattle.qc_codec.proofs.Exact.{IsBytes, all_takes}
-use Rattle.qc_refine.proofs.Restoring.ImageReadings.{read_again}
+use Rattle.qc_refine.specs.Images.{IsCopyBodies}
+use Rattle.qc_refine.proofs.Restoring.ImageReadings.{copy_told, exact_copy_base}
 use Rattle.qc_site.specs.Image.{AreGranted, made_body, to_write}
 use Rattle.qc_site.specs.Mounted.{MountsCopy}
 use Rattle.qc_opening.proofs.KeptDisks.InOrder.{Bytes, are_bytes, each_holds}
 use Rattle.qc_refine.proofs.Order.DonesWalk.{all_front}
-
--- a made record tells no grant
-pub made_tells_none : (table : Table) (copy : ℕ) (bodies : List (List ℕ)) → readings (grant_form table) (body.made.spell (made_for (copy + 1) table) ∷ bodies) ≡ readings (grant_form table) bodies
-unfolding body.made body.grant
-made_tells_none table copy bodies = refl
+use Rattle.qc_opening.proofs.KeptDisks.Lists.{append_mapped}
 
 module _ (copy : ℕ) (table : Table) (past : Past) where
   -- the access of a grant stands below a top of the ledger's last epoch or an earlier one
   abbrev pub IsOfOld : Grant → Type 0
   IsOfOld g = IsOld (past.epoch + 1) g.access
 
-  -- Bodies spell how the copy's disk was made, and then these grants.
-  pub record Spell (granted : List Grant) (bodies : List (List ℕ)) : Type 0 where
-    pub spelled : bodies ≡ body.made.spell (made_for (copy + 1) table) ∷ map (grant_form table).spell granted
-    pub fit : All (grant_form table).fits granted
+  -- Bodies spell how the copy's disk was made, with what it begins, and then these grants.
+  pub record Spell (begin : List Tuple) (granted : List Grant) (bodies : List (List ℕ)) : Type 0 where
+    pub tells : IsCopyBodies table begin granted (copy + 1) bodies
     pub are_old : All IsOfOld granted
 
   -- bodies spell some grants
   abbrev pub AreSpelled : List (List ℕ) → Type 0
-  AreSpelled bodies = (granted : List Grant) × Spell granted bodies
+  AreSpelled bodies = (begin : List Tuple) × (granted : List Grant) × Spell begin granted bodies
 
-  -- what is read of bodies that spell grants
-  pub tell : (granted : List Grant) (bodies : List (List ℕ)) → Spell granted bodies → readings (grant_form table) bodies ≡ granted
-  tell granted bodies s =
-      ap (readings (grant_form table)) s.spelled
-      ∙ made_tells_none table copy (map (grant_form table).spell granted)
-      ∙ read_again (grant_form table) (exact_grant (format_1 table.copies)) granted s.fit
+  -- what bodies spell is what is read of them
+  as_read : (begin : List Tuple) (granted : List Grant) (bodies : List (List ℕ)) → Spell begin granted bodies → Spell (tuples_of_base table (base_in copy_base bodies)) (readings (grant_form table) bodies) bodies
+  as_read begin granted bodies s =
+      let told = copy_told table begin granted (copy + 1) bodies s.tells in
+      subst (λ (b : List Tuple). Spell b (readings (grant_form table) bodies) bodies) (sym told.1) (subst (λ (gs : List Grant). Spell begin gs bodies) (sym told.0) s)
 
-  add : (front : List (List ℕ)) (bytes : List ℕ) (granted : List Grant) (g : Grant) → Spell granted front → bytes ≡ (grant_form table).spell g → (grant_form table).fits g → IsOfOld g → Spell (granted ++ g ∷ []) (front ++ bytes ∷ [])
-  add front bytes granted g s is fits old = record {
-    spelled =
-        ap₂ (λ (f : List (List ℕ)) (b : List ℕ). f ++ b ∷ []) s.spelled is
-        ∙ ap (λ (bs : List (List ℕ)). body.made.spell (made_for (copy + 1) table) ∷ bs) (sym (map-append (grant_form table).spell granted (g ∷ [])));
-    fit = All-append (grant_form table).fits granted (g ∷ []) s.fit (All-cons (grant_form table).fits g [] fits (All-nil (grant_form table).fits));
-    are_old = All-append IsOfOld granted (g ∷ []) s.are_old (All-cons IsOfOld g [] old (All-nil IsOfOld));
-  }
+  -- ONE MORE
 
-  follow : (front : List (List ℕ)) (bytes : List ℕ) (granted : List Grant) (o : Option Grant) → Spell granted front → all_of (grant_form table) bytes ≡ o → IsBytes bytes → MatchOption o ⊥ (MayFollow table past (readings (grant_form table) front)) → AreSpelled (front ++ bytes ∷ [])
-  follow front bytes granted None s reads fit may = absurd may
-  follow front bytes granted (Some g) s reads fit may =
+  add : (front : List (List ℕ)) (bytes : List ℕ) (begin : List Tuple) (granted : List Grant) (g : Grant) → Spell begin granted front → bytes ≡ (grant_form table).spell g → (grant_form table).fits g → IsOfOld g → Spell begin (granted ++ g ∷ []) (front ++ bytes ∷ [])
+  add front bytes begin granted g s is fits old =
+      let t = s.tells in
+      record {
+        tells = record {
+          base = t.base;
+          begin_is = t.begin_is;
+          made_fits = t.made_fits;
+          base_fits = t.base_fits;
+          grants_fit = All-append (grant_form table).fits granted (g ∷ []) t.grants_fit (All-cons (grant_form table).fits g [] fits (All-nil (grant_form table).fits));
+          are =
+              ap₂ (λ (f : List (List ℕ)) (b : List ℕ). f ++ b ∷ []) t.are is
+              ∙ append_mapped (grant_form table).spell (body.made.spell (made_for (copy + 1) table)) (map (copy_base table).spell (option_to_list t.base)) granted (g ∷ []);
+        };
+        are_old = All-append IsOfOld granted (g ∷ []) s.are_old (All-cons IsOfOld g [] old (All-nil IsOfOld));
+      }
+
+  follow : (front : List (List ℕ)) (bytes : List ℕ) (begin : List Tuple) (granted : List Grant) (o : Option Grant) → Spell begin granted front → all_of (grant_form table) bytes ≡ o → IsBytes bytes
+      → MatchOption o ⊥ (MayFollow table past (epoch_of_base (base_in copy_base front)) (readings (grant_form table) front)) → AreSpelled (front ++ bytes ∷ [])
+  follow front bytes begin granted None s reads fit may = absurd may
+  follow front bytes begin granted (Some g) s reads fit may =
       let one = all_takes (grant_form table) (exact_grant (format_1 table.copies)) bytes g fit reads in
-      (granted ++ g ∷ [], add front bytes granted g s one.0 one.1 may.1)
+      (begin, granted ++ g ∷ [], add front bytes begin granted g s one.0 one.1 may.1)
+
+  -- a base behind the made record
+  behind : (first bytes : List ℕ) (o : Option BaseRecord) → first ≡ body.made.spell (made_for (copy + 1) table) → body.made.fits (made_for (copy + 1) table) → all_of (copy_base table) bytes ≡ o → IsBytes bytes
+      → MatchOption o ⊥ (λ (b : BaseRecord). b.epoch ≤ past.epoch) → AreSpelled (first ∷ bytes ∷ [])
+  behind first bytes None is made_fits reads fit low = absurd low
+  behind first bytes (Some b) is made_fits reads fit low =
+      let one = all_takes (copy_base table) (exact_copy_base table) bytes b fit reads in (
+        b.tuples,
+        [],
+        record {
+          tells = record {
+            base = Some b;
+            begin_is = refl;
+            made_fits = made_fits;
+            base_fits = All-cons (copy_base table).fits b [] one.1 (All-nil (copy_base table).fits);
+            grants_fit = All-nil (grant_form table).fits;
+            are = ap₂ (λ (f s : List ℕ). f ∷ s ∷ []) is one.0;
+          };
+          are_old = All-nil IsOfOld;
+        },
+      )
 
   longer : (front : List (List ℕ)) (bytes : List ℕ) → AreSpelled front → MayStand copy table past front bytes → IsBytes bytes → AreSpelled (front ++ bytes ∷ [])
-  longer [] bytes (granted, s) may fit = absurd (omega (arith, ap length s.spelled))
-  longer (first ∷ front) bytes (granted, s) may fit = follow (first ∷ front) bytes granted (all_of (grant_form table) bytes) s refl fit may
+  longer [] bytes (begin, granted, s) may fit = absurd (omega (arith, ap length s.tells.are))
+  longer (first ∷ []) bytes (begin, granted, s) (inl base) fit =
+      let is : first ≡ body.made.spell (made_for (copy + 1) table) = ap (λ (bs : List (List ℕ)). get_or bs 0 []) s.tells.are in
+      behind first bytes (all_of (copy_base table) bytes) is s.tells.made_fits refl fit
+      (subst (λ (o : Option BaseRecord). MatchOption o ⊥ (λ b. b.epoch ≤ past.epoch))
+      (ap (λ (f : List ℕ). base_in copy_base (f ∷ bytes ∷ [])) is ∙ base_behind copy_base (made_for (copy + 1) table) bytes [] s.tells.made_fits) base)
+  longer (first ∷ []) bytes (begin, granted, s) (inr may) fit = follow (first ∷ []) bytes begin granted (all_of (grant_form table) bytes) s refl fit may
+  longer (first ∷ second ∷ front) bytes (begin, granted, s) may fit = follow (first ∷ second ∷ front) bytes begin granted (all_of (grant_form table) bytes) s refl fit may
 
-  begin : (first : List ℕ) → first ≡ body.made.spell (made_for (copy + 1) table) → AreSpelled (first ∷ [])
-  begin first is = ([], record { spelled = ap (λ (b : List ℕ). b ∷ []) is; fit = All-nil (grant_form table).fits; are_old = All-nil IsOfOld })
+  -- A MOUNTED COPY
 
-  -- a mounted copy's disk has what was found on it, where nothing stood there how it was made
-  pub by_found : (found : List (List ℕ)) → AreGranted copy table past found → All Bytes found → AreSpelled (found ++ to_write copy table found)
-  by_found [] granted fit = begin (made_body copy table) refl
-  by_found (first ∷ rest) granted fit =
-      let one = all_takes body.made exact_made first (made_for (copy + 1) table) (are_bytes first (All-head Bytes first rest fit)) granted.made in
-      subst AreSpelled (sym (append-nil (first ∷ rest)))
-      (each_holds (MayStand copy table past) AreSpelled longer (first ∷ []) rest (begin first one.0) granted.order (All-tail Bytes first rest fit))
+  module _ (made_fits : body.made.fits (made_for (copy + 1) table)) where
+    made_alone : (first : List ℕ) → first ≡ body.made.spell (made_for (copy + 1) table) → AreSpelled (first ∷ [])
+    made_alone first is = (
+      map first_tuple table.records,
+      [],
+      record {
+        tells = record {
+          base = None;
+          begin_is = refl;
+          made_fits = made_fits;
+          base_fits = All-nil (copy_base table).fits;
+          grants_fit = All-nil (grant_form table).fits;
+          are = ap (λ (b : List ℕ). b ∷ []) is;
+        };
+        are_old = All-nil IsOfOld;
+      },
+    )
 
-  pub mounted : (limit : ℕ) (told : Option (List ℕ)) (records : List (List ℕ)) → MountsCopy copy table past limit told records → All Bytes records → AreSpelled records
-  mounted limit told records m fit = subst AreSpelled (sym m.all) (by_found m.found m.granted (all_front Bytes m.found (to_write copy table m.found) (subst (All Bytes) m.all fit)))
+    -- a mounted copy's disk has what was found on it, where nothing stood there how it was made
+    by_found : (found : List (List ℕ)) → AreGranted copy table past found → All Bytes found → AreSpelled (found ++ to_write copy table found)
+    by_found [] granted fit = made_alone (made_body copy table) refl
+    by_found (first ∷ rest) granted fit =
+        let one = all_takes body.made exact_made first (made_for (copy + 1) table) (are_bytes first (All-head Bytes first rest fit)) granted.made in
+        subst AreSpelled (sym (append-nil (first ∷ rest)))
+        (each_holds (MayStand copy table past) AreSpelled longer (first ∷ []) rest (made_alone first one.0) granted.order (All-tail Bytes first rest fit))
+
+    pub mounted : (limit : ℕ) (told : Option (List ℕ)) (records : List (List ℕ)) → MountsCopy copy table past limit told records → All Bytes records
+        → Spell (tuples_of_base table (base_in copy_base records)) (readings (grant_form table) records) records
+    mounted limit told records m fit =
+        let (begin, granted, s) = subst AreSpelled (sym m.all) (by_found m.found m.granted (all_front Bytes m.found (to_write copy table m.found) (subst (All Bytes) m.all fit))) in
+        as_read begin granted records s
 
 -- a proper table's copies have made records
 pub made_fits : (table : Table) (copy : ℕ) → (body.table 1).fits table → copy < 255 → body.made.fits (made_for (copy + 1) table)

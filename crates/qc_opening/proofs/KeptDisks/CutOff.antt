@@ -1,8 +1,8 @@
 -- A mounting that is cut off leaves images that restore what those before it do.
 use Rattle.std.proofs.Common.{◌≡◌, ℕ, zero, suc, ◌+◌, ◌<◌, ◌==◌, inl, inr, Bool, true, false, List, [], ◌∷◌, ◌++◌, length, get_or, refl, sym, ap, ap₂, ◌∙◌, subst, arith, append-nil}
-use Rattle.std.specs.Prelude.{Option, None, Some, if◌then◌else◌}
+use Rattle.std.specs.Prelude.{map, Option, None, Some, if◌then◌else◌}
 use Rattle.std.specs.Option.{option_and_then, option_map}
-use Rattle.std.specs.List.{All, cons_option, filter_map}
+use Rattle.std.specs.List.{All, cons_option, filter_map, range_with_len}
 use Rattle.std.proofs.lemmas.Bool.{cases_lt}
 use Rattle.std.proofs.lemmas.List.{get_or_past}
 use Rattle.std.proofs.lemmas.List.Elements.{All-nil, All-cons, All-head, All-tail, filter_map-append}
@@ -10,7 +10,7 @@ use Rattle.std.proofs.lemmas.List.FromFn.{fill_by_all, get_or-map-range_with_len
 use Rattle.qc_config.specs.declared.tuple.Tuple.{Tuple}
 use Rattle.qc_event.specs.declared.event.Grant.{Grant}
 use Rattle.qc_event.specs.declared.table.Table.{Table}
-use Rattle.qc_event.specs.Tables.{base_of}
+use Rattle.qc_codec.specs.Base.{base_in, copy_base, tuples_of_base}
 use Rattle.qc_codec.specs.Bodies as body
 use Rattle.qc_codec.specs.Copy.{grant_form}
 use Rattle.qc_codec.specs.Fields.{some_number}
@@ -22,11 +22,11 @@ use Rattle.qc_codec.specs.declared.record.LedgerRecord.TheVariants.{Made, Epoch}
 use Rattle.qc_journal.proofs.Readings.{records-same}
 use Rattle.qc_journal.specs.Image.{HasRecords}
 use Rattle.qc_ledger.specs.Image as tops
-use Rattle.qc_refine.specs.Images.{Restores, kept_in}
+use Rattle.qc_refine.specs.Images.{Restores, first_of, kept_in}
 use Rattle.qc_refine.specs.Restored.{restored}
 use Rattle.qc_site.specs.Image as grants
 use Rattle.qc_opening.specs.Mountings.{AreCutOff, AreLeft}
-use Rattle.qc_opening.proofs.KeptDisks.CopyRecords.{made_tells_none}
+use Rattle.qc_refine.proofs.Restoring.ImageReadings.{made_told}
 use Rattle.qc_refine.proofs.Order.DonesWalk.{all_front}
 
 -- WHAT A MOUNTING WRITES
@@ -79,9 +79,16 @@ same_tops table found first rest split =
 -- nor a grant
 pub same_grants : (copy : ℕ) (table : Table) (found first rest : List (List ℕ)) → grants.to_write copy table found ≡ first ++ rest → readings (grant_form table) (found ++ first) ≡ readings (grant_form table) found
 same_grants copy table found [] rest split = ap (readings (grant_form table)) (append-nil found)
-same_grants copy table [] (b ∷ []) rest split = let same : grants.made_body copy table ≡ b = cc in ap (λ (x : List ℕ). readings (grant_form table) (x ∷ [])) (sym same) ∙ made_tells_none table copy []
+same_grants copy table [] (b ∷ []) rest split = let same : grants.made_body copy table ≡ b = cc in ap (λ (x : List ℕ). readings (grant_form table) (x ∷ [])) (sym same) ∙ made_told table (made_for (copy + 1) table) []
 same_grants copy table [] (b ∷ c ∷ first) rest split = absurd cc
 same_grants copy table (x ∷ found) (b ∷ first) rest split = absurd cc
+
+-- nor a base, where none is
+pub same_base : (copy : ℕ) (table : Table) (found first rest : List (List ℕ)) → grants.to_write copy table found ≡ first ++ rest → base_in copy_base (found ++ first) ≡ base_in copy_base found
+same_base copy table found [] rest split = ap (base_in copy_base) (append-nil found)
+same_base copy table [] (b ∷ []) rest split = refl
+same_base copy table [] (b ∷ c ∷ first) rest split = absurd cc
+same_base copy table (x ∷ found) (b ∷ first) rest split = absurd cc
 
 -- IMAGES
 
@@ -100,25 +107,38 @@ module _ (table : Table) (images later : List (List ℕ)) (cut : AreCutOff table
         let c = cut.ledger in
         ap tops_in (records-same (get_or images 0 []) c.found (r.bodies 0) c.had (r.has 0)) ∙ sym (same_tops table c.found c.has.first c.has.rest c.has.split)
 
-    grants_same : (copy : ℕ) → copy < table.copies → readings (grant_form table) (r.bodies (copy + 1)) ≡ readings (grant_form table) ((read (copy + 1)).0)
-    grants_same copy there =
+    -- a copy's bodies are read alike, by what tells the same with some first ones of what a mounting writes
+    alike : {A : Type 0} (tell : List (List ℕ) → A) → ((copy : ℕ) (found first rest : List (List ℕ)) → grants.to_write copy table found ≡ first ++ rest → tell (found ++ first) ≡ tell found)
+        → (copy : ℕ) → copy < table.copies → tell (r.bodies (copy + 1)) ≡ tell (read (copy + 1)).0
+    alike tell same copy there =
         let c = cut.copies copy there in
-        ap (readings (grant_form table)) (records-same (get_or images (copy + 1) []) c.found (r.bodies (copy + 1)) c.had (r.has (copy + 1)))
-        ∙ sym (same_grants copy table c.found c.has.first c.has.rest c.has.split)
-        ∙ ap (readings (grant_form table)) (records-same (get_or later (copy + 1) []) (read (copy + 1)).0 (c.found ++ c.has.first) (read (copy + 1)).1 c.has.has)
+        ap tell (records-same (get_or images (copy + 1) []) c.found (r.bodies (copy + 1)) c.had (r.has (copy + 1)))
+        ∙ sym (same copy c.found c.has.first c.has.rest c.has.split)
+        ∙ ap tell (records-same (get_or later (copy + 1) []) (read (copy + 1)).0 (c.found ++ c.has.first) (read (copy + 1)).1 c.has.has)
+
+    -- so are those of all copies
+    all_alike : {A : Type 0} (tell : List (List ℕ) → A) → A → ((copy : ℕ) (found first rest : List (List ℕ)) → grants.to_write copy table found ≡ first ++ rest → tell (found ++ first) ≡ tell found)
+        → map (λ copy. tell (r.bodies (copy + 1))) (range_with_len 0 table.copies) ≡ map (λ copy. tell (read (copy + 1)).0) (range_with_len 0 table.copies)
+    all_alike tell default same =
+        fill_by_all (λ copy. tell (read (copy + 1)).0) (map (λ copy. tell (r.bodies (copy + 1))) (range_with_len 0 table.copies)) table.copies default
+        (length-map-range_with_len (λ copy. tell (r.bodies (copy + 1))) 0 table.copies)
+        (λ copy there. get_or-map-range_with_len (λ c. tell (r.bodies (c + 1))) 0 table.copies copy copy default there (omega arith) ∙ alike tell same copy there)
 
     granted_same : (kept_in table r.bodies).granted ≡ (kept_in table (λ number. (read number).0)).granted
-    granted_same =
-        fill_by_all (λ copy. readings (grant_form table) ((read (copy + 1)).0)) (kept_in table r.bodies).granted table.copies []
-        (length-map-range_with_len (λ copy. readings (grant_form table) (r.bodies (copy + 1))) 0 table.copies)
-        (λ copy there. get_or-map-range_with_len (λ c. readings (grant_form table) (r.bodies (c + 1))) 0 table.copies copy copy [] there (omega arith) ∙ grants_same copy there)
+    granted_same = all_alike (readings (grant_form table)) [] (λ copy. same_grants copy table)
+
+    first_same : first_of table r.bodies ≡ first_of table (λ number. (read number).0)
+    first_same = all_alike (λ bodies. tuples_of_base table (base_in copy_base bodies)) [] (λ copy found first rest split. ap (tuples_of_base table) (same_base copy table found first rest split))
 
     -- what is restored is the same
     pub still_restored : Restores table later tuples
     still_restored = record {
       bodies = λ number. (read number).0;
       has = λ number. (read number).1;
-      same = r.same ∙ ap₂ (λ (ts : List Logged) (gs : List (List Grant)). restored (base_of table) (length table.records) (record { tops = ts; granted = gs })) tops_same granted_same;
+      same =
+          r.same
+          ∙ ap (λ (first : List (List Tuple)). restored first (length table.records) (kept_in table r.bodies)) first_same
+          ∙ ap₂ (λ (ts : List Logged) (gs : List (List Grant)). restored (first_of table (λ number. (read number).0)) (length table.records) (record { tops = ts; granted = gs })) tops_same granted_same;
     }
 
 -- so it is after any number of them

@@ -1,6 +1,6 @@
 -- An image of the ledger's disk tells what was found there, the mounting's epoch, and the tops that were committed since.
 use Rattle.std.proofs.Common.{◌≡◌, ℕ, ◌<◌, ◌≤◌, ◌^◌, List, [], ◌∷◌, ◌++◌, length, refl, sym, ap, ap₂, ◌∙◌, subst, append_assoc, arith}
-use Rattle.std.specs.Prelude.{map, is_some, true}
+use Rattle.std.specs.Prelude.{map, is_some, option_to_list, true}
 use Rattle.std.specs.List.{All}
 use Rattle.std.proofs.lemmas.List.{length-map, map-append}
 use Rattle.std.proofs.lemmas.List.Elements.{All-append, All-head, All-map, All-weaker}
@@ -12,16 +12,17 @@ use Rattle.qc_event.specs.Listed.{listed}
 use Rattle.qc_event.specs.Seats.{ledger_seat}
 use Rattle.qc_event.proofs.LastNumber.{single_number}
 use Rattle.qc_event.proofs.RootAndTops.{ready_started}
+use Rattle.qc_codec.specs.Base.{ledger_base}
 use Rattle.qc_codec.specs.Bodies as body
 use Rattle.qc_codec.specs.Ledger.{made_for, record_of_top}
 use Rattle.qc_codec.specs.declared.past.Logged.{Logged}
 use Rattle.qc_codec.specs.declared.past.Past.{Past as Logs}
 use Rattle.qc_codec.specs.declared.record.LedgerRecord.{LedgerRecord}
-use Rattle.qc_codec.specs.declared.record.LedgerRecord.TheVariants.{Made, Epoch, Top}
+use Rattle.qc_codec.specs.declared.record.LedgerRecord.TheVariants.{Epoch, Top}
 use Rattle.qc_journal.specs.Image.{HasRecords}
 use Rattle.qc_ledger.specs.Entered.{told_body, tops_of}
 use Rattle.qc_desk.specs.Entries.{entries_of}
-use Rattle.qc_refine.specs.Images.{IsLedgerImage, ledger_records}
+use Rattle.qc_refine.specs.Images.{IsLedgerImage}
 use Rattle.qc_refine.specs.Listed.{logged, logged_as}
 use Rattle.qc_refine.specs.Standing.{AreNext, IsOfEpoch, IsNext}
 use Rattle.qc_refine.proofs.Restoring.LoggedTops.{IsLogged, committed_ready, logged_are}
@@ -29,6 +30,7 @@ use Rattle.qc_ledger.specs.Since as left
 use Rattle.qc_system.specs.Left.{KeepsTops}
 use Rattle.qc_opening.proofs.KeptDisks.CopyImages.{or_more}
 use Rattle.qc_opening.proofs.KeptDisks.LedgerRecords.{Mounted}
+use Rattle.qc_opening.proofs.KeptDisks.Lists.{append_mapped}
 use Rattle.qc_refine.proofs.Restoring.ListedNames.{top_fits}
 use Rattle.qc_opening.proofs.KeptDisks.LoggedRecords.{bodies_same, logged_same}
 
@@ -78,23 +80,20 @@ module _ (setting : Setting) (past : Past) (epoch : ℕ) (legal : Legal setting 
       pub at_most_one : length more ≤ 1
       pub is_image : IsLedgerImage table epoch logs.tops (logged past ++ more) image
 
-    -- the records of the mounting, and those of tops
-    abbrev front : List LedgerRecord
-    front = Made (made_for 0 table) ∷ (m.old ++ Epoch epoch ∷ [])
-
-    regrouped : (since : List Logged) → (Made (made_for 0 table) ∷ (m.old ++ Epoch epoch ∷ [])) ++ map record_of_top since ≡ ledger_records table m.old epoch since
-    regrouped since = ap (λ (l : List LedgerRecord). Made (made_for 0 table) ∷ l) (append_assoc m.old (Epoch epoch ∷ []) (map record_of_top since))
+    regrouped : (since : List Logged) → (m.tells.old ++ Epoch epoch ∷ []) ++ map record_of_top since ≡ m.tells.old ++ Epoch epoch ∷ map record_of_top since
+    regrouped since = append_assoc m.tells.old (Epoch epoch ∷ []) (map record_of_top since)
 
     bodies_are : (tops more : List Name) → tops ≡ tops_of (entries_of ledger_seat past) ++ more
-        → records ++ map (told_body (listed past)) tops ≡ map body.ledger.spell (ledger_records table m.old epoch (logged past ++ map (logged_as past) more))
+        → records ++ map (told_body (listed past)) tops
+        ≡ body.made.spell (made_for 0 table) ∷ (map (ledger_base table).spell (option_to_list m.tells.base) ++ map body.ledger.spell (m.tells.old ++ Epoch epoch ∷ map record_of_top (logged past ++ map (logged_as past) more)))
     bodies_are tops more same =
         let since : map (logged_as past) tops ≡ logged past ++ map (logged_as past) more =
         ap (map (logged_as past)) same
         ∙ map-append (logged_as past) (tops_of (entries_of ledger_seat past)) more
         ∙ ap (λ (l : List Logged). l ++ map (logged_as past) more) (sym (logged_same setting past legal)) in
-        ap₂ (λ (a b : List (List ℕ)). a ++ b) m.spelled (bodies_same past tops ∙ ap (λ (l : List Logged). map body.ledger.spell (map record_of_top l)) since)
-        ∙ sym (map-append body.ledger.spell (Made (made_for 0 table) ∷ (m.old ++ Epoch epoch ∷ [])) (map record_of_top (logged past ++ map (logged_as past) more)))
-        ∙ ap (map body.ledger.spell) (regrouped (logged past ++ map (logged_as past) more))
+        ap₂ (λ (a b : List (List ℕ)). a ++ b) m.tells.are (bodies_same past tops ∙ ap (λ (l : List Logged). map body.ledger.spell (map record_of_top l)) since)
+        ∙ append_mapped body.ledger.spell (body.made.spell (made_for 0 table)) (map (ledger_base table).spell (option_to_list m.tells.base)) (m.tells.old ++ Epoch epoch ∷ []) (map record_of_top (logged past ++ map (logged_as past) more))
+        ∙ ap (λ (rs : List LedgerRecord). body.made.spell (made_for 0 table) ∷ (map (ledger_base table).spell (option_to_list m.tells.base) ++ map body.ledger.spell rs)) (regrouped (logged past ++ map (logged_as past) more))
 
     tells : (tops more : List Name) → tops ≡ tops_of (entries_of ledger_seat past) ++ more → All (left.IsNext past) more → length more ≤ 1 → HasRecords (records ++ map (told_body (listed past)) tops) image → Tells
     tells tops more same next one has = record {
@@ -102,13 +101,20 @@ module _ (setting : Setting) (past : Past) (epoch : ℕ) (legal : Legal setting 
       next = are_next past more next one;
       at_most_one = subst (λ n. n ≤ 1) (sym (length-map more (logged_as past))) one;
       is_image = record {
-        old = m.old;
-        made_once = m.made_once;
-        old_tops = m.tops;
-        epochs = m.epochs;
-        fit = subst (All body.ledger.fits) (regrouped (logged past ++ map (logged_as past) more))
-            (All-append body.ledger.fits (Made (made_for 0 table) ∷ (m.old ++ Epoch epoch ∷ [])) (map record_of_top (logged past ++ map (logged_as past) more)) m.fit (all_fit more next));
-        has = subst (λ (b : List (List ℕ)). HasRecords b image) (bodies_are tops more same) has;
+        bodies = records ++ map (told_body (listed past)) tops;
+        tells = record {
+          base = m.tells.base;
+          old = m.tells.old;
+          made_once = m.tells.made_once;
+          old_tops = m.tells.old_tops;
+          epochs = m.tells.epochs;
+          made_fits = m.tells.made_fits;
+          base_fits = m.tells.base_fits;
+          fit = subst (All body.ledger.fits) (regrouped (logged past ++ map (logged_as past) more))
+              (All-append body.ledger.fits (m.tells.old ++ Epoch epoch ∷ []) (map record_of_top (logged past ++ map (logged_as past) more)) m.tells.fit (all_fit more next));
+          are = bodies_are tops more same;
+        };
+        has = has;
       };
     }
 

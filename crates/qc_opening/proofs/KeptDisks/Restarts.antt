@@ -1,10 +1,10 @@
 -- What the next mounting over a store's images starts from: what they restore, and where no grant stands on them the start
 -- tuples of the table.
 use Rattle.std.proofs.Common.{◌≡◌, ℕ, zero, suc, ◌+◌, ◌<◌, ◌≤◌, inl, inr, ◌⊎◌, List, [], ◌++◌, length, get_or, refl, sym, ap, ap₂, ◌∙◌, subst, arith, append-nil}
-use Rattle.std.specs.Prelude.{Option, None, Some, IfSome, IsSome}
+use Rattle.std.specs.Prelude.{map, Option, None, Some, IfSome, IsSome}
 use Rattle.std.proofs.Math.Logic.{∥∥₁_map}
 use Rattle.std.proofs.lemmas.Bool.{cases_lt}
-use Rattle.std.proofs.lemmas.List.{get_or_past, length-map}
+use Rattle.std.proofs.lemmas.List.{get_or_past, get_or-replicate, length-map, length-replicate}
 use Rattle.std.proofs.lemmas.List.FromFn.{get_or-map-range_with_len}
 use Rattle.qc_config.specs.declared.tuple.Tuple.{Tuple}
 use Rattle.qc_event.specs.declared.event.Grant.{Grant}
@@ -14,27 +14,33 @@ use Rattle.qc_event.specs.Base.{start_tuple}
 use Rattle.qc_event.specs.History.{Past, limit}
 use Rattle.qc_event.specs.Legal.{Legal}
 use Rattle.qc_event.specs.Sound.{IsSound}
-use Rattle.qc_event.specs.Tables.{base_of, setting_of}
+use Rattle.qc_event.specs.Tables.{base_of, first_tuple, setting_of}
+use Rattle.qc_codec.specs.Base.{base_in, copy_base, tuples_of_base}
 use Rattle.qc_codec.specs.Copy.{grant_form}
 use Rattle.qc_codec.specs.Ledger.{readings}
 use Rattle.qc_codec.specs.Restored.{restored_row}
 use Rattle.qc_codec.specs.declared.past.Logged.{Logged}
 use Rattle.qc_codec.specs.declared.past.Past.{Past as Logs}
+use Rattle.qc_desk.specs.Held.{from_row}
 use Rattle.qc_journal.proofs.Readings.{records-same}
 use Rattle.qc_journal.specs.Image.{HasRecords}
-use Rattle.qc_refine.specs.Images.{CarryFinal, IsCopyImage, IsStanding, Restores, kept_in}
+use Rattle.qc_refine.specs.Images.{CarryFinal, IsCopyImage, IsStanding, Restores, first_of, kept_in}
+use Rattle.qc_refine.specs.Folded.{begins}
 use Rattle.qc_refine.specs.Restored.{granted_at, restored}
 use Rattle.qc_refine.specs.Standing.{IsOfEpoch, committed_too}
-use Rattle.qc_refine.proofs.Restoring.ImageReadings.{copy_told}
+use Rattle.qc_refine.proofs.Restoring.ImageReadings.{copy_tells, copy_told}
 use Rattle.qc_refine.proofs.Restoring.RestoredImages.{carry_final, nothing_restored, restore_one, restore_some}
 use Rattle.qc_site.specs.Image.{AreMountableAsCopy, to_write}
 use Rattle.qc_opening.specs.Mountings.{AreKept, AreLeft, CarryNext, HaveNoGrants, IsMounted}
-use Rattle.qc_opening.proofs.KeptDisks.CutOff.{left_many, left_restored, same_grants}
-use Rattle.qc_opening.proofs.KeptDisks.Stands.{rows_restored, stand}
+use Rattle.qc_opening.proofs.KeptDisks.CutOff.{left_many, left_restored, same_base, same_grants}
+use Rattle.qc_opening.proofs.KeptDisks.Stands.{first_at, first_many, rows_restored, stand}
 
--- what a mounting writes on a copy's disk tells no grant
+-- what a mounting writes on a copy's disk tells no grant, nor with what it begins
 written_same : (table : Table) (copy : ℕ) (found : List (List ℕ)) → readings (grant_form table) (found ++ to_write copy table found) ≡ readings (grant_form table) found
 written_same table copy found = same_grants copy table found (to_write copy table found) [] (sym (append-nil (to_write copy table found)))
+
+written_begin : (table : Table) (copy : ℕ) (found : List (List ℕ)) → tuples_of_base table (base_in copy_base (found ++ to_write copy table found)) ≡ tuples_of_base table (base_in copy_base found)
+written_begin table copy found = ap (tuples_of_base table) (same_base copy table found (to_write copy table found) [] (sym (append-nil (to_write copy table found))))
 
 -- THE NEXT MOUNTING
 
@@ -51,12 +57,22 @@ module _ (table : Table) (images : List (List ℕ)) (records : ℕ → List (Lis
   abbrev bodies : ℕ → List (List ℕ)
   bodies number = (read number).0
 
+  found_read : (copy : ℕ) (there : copy < table.copies) → (m.copies copy there).found ≡ bodies (copy + 1)
+  found_read copy there = records-same (get_or images (copy + 1) []) (read (copy + 1)).0 (m.copies copy there).found (read (copy + 1)).1 (m.copies copy there).fine.0
+
   grants_read : (copy : ℕ) → copy < table.copies → readings (grant_form table) (records (copy + 1)) ≡ granted_at (kept_in table bodies) copy
   grants_read copy there =
       ap (readings (grant_form table)) (m.copies copy there).all
       ∙ written_same table copy (m.copies copy there).found
-      ∙ ap (readings (grant_form table)) (records-same (get_or images (copy + 1) []) (read (copy + 1)).0 (m.copies copy there).found (read (copy + 1)).1 (m.copies copy there).fine.0)
+      ∙ ap (readings (grant_form table)) (found_read copy there)
       ∙ sym (get_or-map-range_with_len (λ c. readings (grant_form table) ((read (c + 1)).0)) 0 table.copies copy copy [] there (omega arith))
+
+  begin_read : (copy : ℕ) → copy < table.copies → tuples_of_base table (base_in copy_base (records (copy + 1))) ≡ begins (first_of table bodies) copy
+  begin_read copy there =
+      ap (λ bs. tuples_of_base table (base_in copy_base bs)) (m.copies copy there).all
+      ∙ written_begin table copy (m.copies copy there).found
+      ∙ ap (λ bs. tuples_of_base table (base_in copy_base bs)) (found_read copy there)
+      ∙ sym (first_at table bodies copy there)
 
   tops_read : m.past.tops ≡ (kept_in table bodies).tops
   unfolding read
@@ -67,8 +83,10 @@ module _ (table : Table) (images : List (List ℕ)) (records : ℕ → List (Lis
   restores = record {
     bodies = bodies;
     has = λ number. (read number).1;
-    same = rows_restored table base (kept_in table bodies) m.as_many (λ copy there.
-        m.starts copy there ∙ ap₂ (λ (tops : List Logged) (gs : List Grant). restored_row tops (length table.records) (start_tuple (base_of table) copy) gs) tops_read (grants_read copy there));
+    same = rows_restored table base (first_of table bodies) (kept_in table bodies) m.as_many (first_many table bodies) (λ copy there.
+        m.starts copy there
+        ∙ ap (λ (row : List Tuple). restored_row m.past.tops (length table.records) (from_row row) (readings (grant_form table) (records (copy + 1)))) (begin_read copy there)
+        ∙ ap₂ (λ (tops : List Logged) (gs : List Grant). restored_row tops (length table.records) (start_tuple (first_of table bodies) copy) gs) tops_read (grants_read copy there));
   }
 
 module _ (table : Table) (told : ℕ → Option (List ℕ)) (records later_records : ℕ → List (List ℕ)) (epoch later_epoch : ℕ) (base later_base : List (List Tuple)) (past : Past) (images last : List (List ℕ)) (later : List (List (List ℕ)))
@@ -94,23 +112,28 @@ module _ (table : Table) (told : ℕ → Option (List ℕ)) (records later_recor
 -- THE FIRST MOUNTING
 
 module _ (table : Table) (told : ℕ → Option (List ℕ)) (records : ℕ → List (List ℕ)) (epoch : ℕ) (base : List (List Tuple)) (m : IsMounted table told records epoch base) (none : HaveNoGrants table told) where
-  no_grants : (copy : ℕ) (past : Logs) (limit : ℕ) (found : List (List ℕ)) (o : Option (List ℕ)) → IsSome o → IfSome o (λ image. HasRecords [] image ⊎ IsCopyImage table copy [] image)
-      → IfSome o (λ bytes. HasRecords found bytes × AreMountableAsCopy copy table past limit found) → readings (grant_form table) found ≡ []
-  no_grants copy past limit found None some fresh fine = absurd cc
-  no_grants copy past limit found (Some image) some (inl empty) fine = ap (readings (grant_form table)) (records-same image [] found empty fine.0)
-  no_grants copy past limit found (Some image) some (inr fresh) fine = copy_told table image found fine.0 copy [] fresh
+  -- bodies tell no grant, and that the copy begins with the table's tuples
+  abbrev TellNone : List (List ℕ) → Type 0
+  TellNone bodies = (readings (grant_form table) bodies ≡ []) × (tuples_of_base table (base_in copy_base bodies) ≡ map first_tuple table.records)
 
-  nothing_read : (copy : ℕ) → copy < table.copies → readings (grant_form table) (records (copy + 1)) ≡ []
-  nothing_read copy there =
+  no_grants : (copy : ℕ) (past : Logs) (limit : ℕ) (found : List (List ℕ)) (o : Option (List ℕ)) → IsSome o → IfSome o (λ image. HasRecords [] image ⊎ IsCopyImage table copy (map first_tuple table.records) [] image)
+      → IfSome o (λ bytes. HasRecords found bytes × AreMountableAsCopy copy table past limit found) → TellNone found
+  no_grants copy past limit found None some fresh fine = absurd cc
+  no_grants copy past limit found (Some image) some (inl empty) fine = subst TellNone (sym (records-same image [] found empty fine.0)) (refl, refl)
+  no_grants copy past limit found (Some image) some (inr fresh) fine = copy_told table (map first_tuple table.records) [] (copy + 1) found (copy_tells table image found fine.0 copy (map first_tuple table.records) [] fresh)
+
+  none_told : (copy : ℕ) → copy < table.copies → TellNone (records (copy + 1))
+  none_told copy there =
       let c = m.copies copy there in
-      ap (readings (grant_form table)) c.all
-      ∙ written_same table copy c.found
-      ∙ no_grants copy m.past (m.limit (copy + 1)) c.found (told (copy + 1)) (none copy there).0 (none copy there).1 c.fine
+      let none_found = no_grants copy m.past (m.limit (copy + 1)) c.found (told (copy + 1)) (none copy there).0 (none copy there).1 c.fine in
+      subst TellNone (sym c.all) (written_same table copy c.found ∙ none_found.0, written_begin table copy c.found ∙ none_found.1)
 
   -- where no grant stands, the copies start with the table's start tuples
   pub first_start : base ≡ base_of table
   first_start =
-      rows_restored table base (record { tops = m.past.tops; granted = [] }) m.as_many (λ copy there.
-      m.starts copy there ∙ ap (restored_row m.past.tops (length table.records) (start_tuple (base_of table) copy)) (nothing_read copy there))
+      rows_restored table base (base_of table) (record { tops = m.past.tops; granted = [] }) m.as_many (length-replicate table.copies (map first_tuple table.records)) (λ copy there.
+      m.starts copy there
+      ∙ ap₂ (λ (row : List Tuple) (gs : List Grant). restored_row m.past.tops (length table.records) (from_row row) gs)
+      ((none_told copy there).1 ∙ sym (get_or-replicate table.copies copy (map first_tuple table.records) [] there)) (none_told copy there).0)
       ∙ ap (λ n. restored (base_of table) n (record { tops = []; granted = [] })) (sym (length-map table.records (λ (r : Row). r.config)))
       ∙ nothing_restored table

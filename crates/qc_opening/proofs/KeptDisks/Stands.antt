@@ -1,11 +1,11 @@
 -- What is kept on a store's disks stands beside its history.
-use Rattle.std.proofs.Common.{◌≡◌, ℕ, ◌+◌, ◌<◌, ◌≤◌, inl, inr, List, [], ◌++◌, length, get_or, refl, sym, ap, ◌∙◌, subst, arith}
+use Rattle.std.proofs.Common.{◌≡◌, ℕ, ◌+◌, ◌<◌, ◌≤◌, inl, inr, List, [], ◌++◌, length, get_or, refl, sym, ap, ap₂, ◌∙◌, subst, arith}
 use Rattle.std.specs.Prelude.{map, Option}
 use Rattle.std.specs.List.{All, range_with_len}
 use Rattle.std.proofs.Math.Logic.{∥∥₁_elim, ∥∥₁_map, ∥∥₁_prop}
 use Rattle.std.proofs.lemmas.Bool.{cases_lt}
-use Rattle.std.proofs.lemmas.List.{length-map, length-replicate}
-use Rattle.std.proofs.lemmas.List.FromFn.{fill_by_all, get_or-map-range_with_len}
+use Rattle.std.proofs.lemmas.List.{length-map}
+use Rattle.std.proofs.lemmas.List.FromFn.{fill_by_all, get_or-map-range_with_len, length-map-range_with_len}
 use Rattle.qc_config.specs.declared.tuple.Tuple.{Tuple}
 use Rattle.qc_event.specs.declared.event.Grant.{Grant}
 use Rattle.qc_event.specs.declared.table.Row.{Row}
@@ -13,12 +13,15 @@ use Rattle.qc_event.specs.declared.table.Table.{Table}
 use Rattle.qc_event.specs.Base.{start_tuple}
 use Rattle.qc_event.specs.History.{Past, grants, limit}
 use Rattle.qc_event.specs.Legal.{Legal}
-use Rattle.qc_event.specs.Tables.{base_of, first_tuple, setting_of}
+use Rattle.qc_event.specs.Tables.{setting_of}
+use Rattle.qc_codec.specs.Base.{base_in, copy_base, tuples_of_base}
 use Rattle.qc_codec.specs.Copy.{grant_form}
 use Rattle.qc_codec.specs.Ledger.{IsOld, readings}
 use Rattle.qc_codec.specs.Restored.{restored_row}
 use Rattle.qc_codec.proofs.Fits.{table_sized}
-use Rattle.qc_refine.specs.Images.{IsCopyImage, IsStandingWithin}
+use Rattle.qc_desk.specs.Held.{from_row}
+use Rattle.qc_refine.specs.Folded.{begins}
+use Rattle.qc_refine.specs.Images.{IsCopyImage, IsStandingWithin, first_of}
 use Rattle.qc_refine.specs.Listed.{logged}
 use Rattle.qc_refine.specs.Restored.{Kept, granted_at, restored}
 use Rattle.qc_refine.specs.Standing.{IsAskedOf, IsOfEpoch, IsUntold, StandBeside}
@@ -30,23 +33,31 @@ use Rattle.qc_opening.proofs.KeptDisks.LedgerImages as ledger_image
 use Rattle.qc_opening.proofs.KeptDisks.LedgerRecords as ledger_records
 
 -- the rows of copies are those that restored lists give, one by one
-pub rows_restored : (table : Table) (base : List (List Tuple)) (kept : Kept) → length base ≡ table.copies
-    → ((copy : ℕ) → copy < table.copies → get_or base copy [] ≡ restored_row kept.tops (length table.records) (start_tuple (base_of table) copy) (granted_at kept copy))
-    → base ≡ restored (base_of table) (length table.records) kept
-rows_restored table base kept many each =
-    fill_by_all (λ copy. restored_row kept.tops (length table.records) (start_tuple (base_of table) copy) (granted_at kept copy)) base (length (base_of table)) []
-    (many ∙ sym (length-replicate table.copies (map first_tuple table.records)))
-    (λ copy there. each copy (subst (λ (n : ℕ). copy < n) (length-replicate table.copies (map first_tuple table.records)) there))
+pub rows_restored : (table : Table) (base first : List (List Tuple)) (kept : Kept) → length base ≡ table.copies → length first ≡ table.copies
+    → ((copy : ℕ) → copy < table.copies → get_or base copy [] ≡ restored_row kept.tops (length table.records) (start_tuple first copy) (granted_at kept copy))
+    → base ≡ restored first (length table.records) kept
+rows_restored table base first kept many as_many each =
+    fill_by_all (λ copy. restored_row kept.tops (length table.records) (start_tuple first copy) (granted_at kept copy)) base (length first) []
+    (many ∙ sym as_many)
+    (λ copy there. each copy (subst (λ (n : ℕ). copy < n) as_many there))
+
+-- by bodies, with what the copies begin is one for each
+pub first_many : (table : Table) (bodies : ℕ → List (List ℕ)) → length (first_of table bodies) ≡ table.copies
+first_many table bodies = length-map-range_with_len (λ c. tuples_of_base table (base_in copy_base (bodies (c + 1)))) 0 table.copies
+
+pub first_at : (table : Table) (bodies : ℕ → List (List ℕ)) (copy : ℕ) → copy < table.copies → begins (first_of table bodies) copy ≡ tuples_of_base table (base_in copy_base (bodies (copy + 1)))
+first_at table bodies copy there = get_or-map-range_with_len (λ c. tuples_of_base table (base_in copy_base (bodies (c + 1)))) 0 table.copies copy copy [] there (omega arith)
 
 module _ (table : Table) (told : ℕ → Option (List ℕ)) (records : ℕ → List (List ℕ)) (epoch : ℕ) (base : List (List Tuple)) (m : IsMounted table told records epoch base) where
   -- what a copy had granted before
   abbrev pub old : ℕ → List Grant
   old copy = readings (grant_form table) (records (copy + 1))
 
-  pub copy_spelled : (copy : ℕ) → copy < table.copies → copy_records.Spell copy table m.past (readings (grant_form table) (records (copy + 1))) (records (copy + 1))
+  pub copy_spelled : (copy : ℕ) → copy < table.copies → copy_records.Spell copy table m.past (tuples_of_base table (base_in copy_base (records (copy + 1)))) (readings (grant_form table) (records (copy + 1))) (records (copy + 1))
   copy_spelled copy there =
-      let (granted, s) = copy_records.mounted copy table m.past (m.limit (copy + 1)) (told (copy + 1)) (records (copy + 1)) (m.copies copy there) (m.bytes (copy + 1) (omega (arith, there))) in
-      subst (λ gs. copy_records.Spell copy table m.past gs (records (copy + 1))) (sym (copy_records.tell copy table m.past granted (records (copy + 1)) s)) s
+      let small = (table_sized table m.proper).copies in
+      copy_records.mounted copy table m.past (copy_records.made_fits table copy m.proper (omega (arith, there, small)))
+      (m.limit (copy + 1)) (told (copy + 1)) (records (copy + 1)) (m.copies copy there) (m.bytes (copy + 1) (omega (arith, there)))
 
   ledger_mounted : ledger_records.Mounted table m.past epoch (records 0)
   ledger_mounted = ledger_records.mounted table m.past epoch m.proper m.small (m.limit 0) (told 0) (records 0) m.ledger (m.bytes 0 (omega arith))
@@ -57,9 +68,13 @@ module _ (table : Table) (told : ℕ → Option (List ℕ)) (records : ℕ → L
   before_at : (copy : ℕ) → copy < table.copies → granted_at before copy ≡ readings (grant_form table) (records (copy + 1))
   before_at copy there = get_or-map-range_with_len (λ c. readings (grant_form table) (records (c + 1))) 0 table.copies copy copy [] there (omega arith)
 
-  starts_before : base ≡ restored (base_of table) (length table.records) before
-  starts_before = rows_restored table base before m.as_many (λ copy there.
-      m.starts copy there ∙ ap (restored_row m.past.tops (length table.records) (start_tuple (base_of table) copy)) (sym (before_at copy there)))
+  -- with what the copies begin
+  abbrev first : List (List Tuple)
+  first = first_of table records
+
+  starts_before : base ≡ restored first (length table.records) before
+  starts_before = rows_restored table base first before m.as_many (first_many table records) (λ copy there.
+      m.starts copy there ∙ ap₂ (λ (row : List Tuple) (gs : List Grant). restored_row m.past.tops (length table.records) (from_row row) gs) (sym (first_at table records copy there)) (sym (before_at copy there)))
 
   module _ (past : Past) (images : List (List ℕ)) (legal : Legal (setting_of table base) past) (few : length past ≤ limit) (of_epoch : IsOfEpoch epoch past) (as_many : length images ≡ table.copies + 1) where
     abbrev image : ℕ → List ℕ
@@ -67,16 +82,24 @@ module _ (table : Table) (told : ℕ → Option (List ℕ)) (records : ℕ → L
 
     -- what an image of a copy's disk tells
     abbrev CopyTells : ℕ → Type 0
-    CopyTells copy = copy_image.Tells (setting_of table base) table (length base) copy (records (copy + 1)) (readings (grant_form table) (records (copy + 1))) past (get_or images (copy + 1) [])
+    CopyTells copy = copy_image.Tells (setting_of table base) table (length base) copy (records (copy + 1)) (tuples_of_base table (base_in copy_base (records (copy + 1)))) (readings (grant_form table) (records (copy + 1))) past (get_or images (copy + 1) [])
 
     abbrev LedgerTells : Type 0
     LedgerTells = ledger_image.Tells (setting_of table base) past epoch legal few of_epoch m.small table m.past (records 0) ledger_mounted (get_or images 0 [])
 
     -- those of each copy, with none where there is no copy
     module _ (l : LedgerTells) (c : Each table.copies CopyTells) where
-      told_at : (copy : ℕ) → (untold : List Grant) × (copy < table.copies → All (IsUntold past) untold × (length untold ≤ 1) × All (IsAskedOf past copy) untold × IsCopyImage table copy (readings (grant_form table) (records (copy + 1)) ++ (grants past copy ++ untold)) (get_or images (copy + 1) []))
+      told_at : (copy : ℕ) → (untold : List Grant) × (copy < table.copies → All (IsUntold past) untold × (length untold ≤ 1) × All (IsAskedOf past copy) untold × IsCopyImage table copy (begins first copy) (readings (grant_form table) (records (copy + 1)) ++ (grants past copy ++ untold)) (get_or images (copy + 1) []))
       told_at copy = elim (cases_lt copy table.copies) [
-        | inl there ↦ ((c copy there).untold, λ here. ((c copy there).are, (c copy there).few, (c copy there).asked, (c copy there).is_image))
+        | inl there ↦ (
+          (c copy there).untold,
+          λ here. (
+            (c copy there).are,
+            (c copy there).few,
+            (c copy there).asked,
+            subst (λ row. IsCopyImage table copy row (readings (grant_form table) (records (copy + 1)) ++ (grants past copy ++ (c copy there).untold)) (get_or images (copy + 1) [])) (sym (first_at table records copy there)) (c copy there).is_image,
+          ),
+        )
         | inr past_all ↦ ([], λ here. absurd (omega (arith, here, past_all)))
       ]
 
@@ -89,20 +112,17 @@ module _ (table : Table) (told : ℕ → Option (List ℕ)) (records : ℕ → L
       now_at : (copy : ℕ) → copy < table.copies → granted_at now copy ≡ all_granted copy
       now_at copy there = get_or-map-range_with_len all_granted 0 table.copies copy copy [] there (omega arith)
 
-      copies_are : length (base_of table) ≡ table.copies
-      copies_are = length-replicate table.copies (map first_tuple table.records)
-
-      within : (copy : ℕ) → copy < length (base_of table) → copy < table.copies
-      within copy there = subst (λ (n : ℕ). copy < n) copies_are there
+      within : (copy : ℕ) → copy < length first → copy < table.copies
+      within copy there = subst (λ (n : ℕ). copy < n) (first_many table records) there
 
       old_grants : (copy : ℕ) → copy < table.copies → All (λ (g : Grant). IsOld epoch g.access) (granted_at before copy)
       old_grants copy there =
           subst (All (λ (g : Grant). IsOld epoch g.access)) (sym (before_at copy there))
           (subst (λ (e : ℕ). All (λ (g : Grant). IsOld e g.access) (readings (grant_form table) (records (copy + 1)))) (sym m.ledger.next) (copy_spelled copy there).are_old)
 
-      beside : StandBeside (base_of table) epoch (setting_of table base) before now past
+      beside : StandBeside first epoch (setting_of table base) before now past
       beside = record {
-        starts = starts_before ∙ ap (λ n. restored (base_of table) n before) (sym (length-map table.records (λ (r : Row). r.config)));
+        starts = starts_before ∙ ap (λ n. restored first n before) (sym (length-map table.records (λ (r : Row). r.config)));
         old_tops = ledger_mounted.are_old;
         old_grants = λ copy there. old_grants copy (within copy there);
         of_epoch = of_epoch;
@@ -118,12 +138,14 @@ module _ (table : Table) (told : ℕ → Option (List ℕ)) (records : ℕ → L
       unfolding beside
       stand_so = record {
         standing = record {
+          first = first;
           before = before;
           now = now;
           beside = beside;
+          many = first_many table records;
           as_many = as_many;
           ledger = l.is_image;
-          copies = λ copy there. subst (λ gs. IsCopyImage table copy gs (get_or images (copy + 1) [])) (sym (now_at copy there)) ((told_at copy).1 there).3;
+          copies = λ copy there. subst (λ gs. IsCopyImage table copy (begins first copy) gs (get_or images (copy + 1) [])) (sym (now_at copy there)) ((told_at copy).1 there).3;
         };
         few_tops = l.at_most_one;
         few_grants = λ copy there. ((told_at copy).1 there).1;
@@ -139,12 +161,7 @@ module _ (table : Table) (told : ℕ → Option (List ℕ)) (records : ℕ → L
       ledger_tells = ∥∥₁_map kept.ledger (λ keeps.
           ledger_image.told (setting_of table base) past epoch legal few of_epoch m.small table m.past (records 0) ledger_mounted (get_or images 0 []) (λ i. i ≡ get_or images 0 []) refl keeps)
 
-      small : (copy : ℕ) → copy < table.copies → copy < 255
-      small copy there = let most = (table_sized table m.proper).copies in omega (arith, there, most)
-
       copies_tell : Each table.copies (λ copy. ∥ CopyTells past images legal few of_epoch kept.as_many copy ∥₁)
-      copies_tell copy there =
-          let s = copy_spelled copy there in
-          ∥∥₁_map (kept.copies copy there) (λ keeps.
-          copy_image.told (setting_of table base) table (length base) copy (records (copy + 1)) (readings (grant_form table) (records (copy + 1))) past (get_or images (copy + 1) [])
-          m.as_many s.spelled (copy_records.made_fits table copy m.proper (small copy there)) s.fit (λ i. i ≡ get_or images (copy + 1) []) refl keeps)
+      copies_tell copy there = ∥∥₁_map (kept.copies copy there) (λ keeps.
+          copy_image.told (setting_of table base) table (length base) copy (records (copy + 1)) (tuples_of_base table (base_in copy_base (records (copy + 1)))) (readings (grant_form table) (records (copy + 1))) past (get_or images (copy + 1) [])
+          m.as_many (copy_spelled copy there).tells (λ i. i ≡ get_or images (copy + 1) []) refl keeps)

@@ -10,17 +10,19 @@ use Rattle.qc_event.specs.declared.table.Row.{Row}
 use Rattle.qc_event.specs.declared.table.Table.{Table}
 use Rattle.qc_event.specs.Base.{start_tuple}
 use Rattle.qc_event.specs.Tables.{base_of, setting_of}
+use Rattle.qc_codec.specs.Base.{base_in, copy_base, tuples_of_base}
 use Rattle.qc_codec.specs.Copy as Copy
 use Rattle.qc_codec.specs.Copy.{grant_form}
-use Rattle.qc_codec.specs.Ledger.{MayStand, readings}
+use Rattle.qc_codec.specs.Ledger.{MayStand, made_for, readings}
 use Rattle.qc_codec.specs.Restored.{restored_row}
+use Rattle.qc_desk.specs.Held.{from_row}
 use Rattle.qc_journal.specs.Image.{HasRecords, IsShort, length_bytes, row as records_row}
 use Rattle.qc_journal.specs.Journal.{IsTooLong}
 use Rattle.qc_journal.proofs.Images.{length-length_bytes}
 use Rattle.qc_refine.specs.Images.{IsStandingWithin}
 use Rattle.qc_site.specs.Mounted as copies
 use Rattle.qc_system.specs.Left.{KeepsGrants}
-use Rattle.qc_opening.proofs.KeptDisks.CopyRecords.{made_tells_none}
+use Rattle.qc_refine.proofs.Restoring.ImageReadings.{made_told}
 use Rattle.qc_opening.proofs.KeptDisks.Stands.{stand}
 use Rattle.qc_codec.specs.Bodies as body
 use Rattle.qc_codec.specs.Fields.{config, half, long, word}
@@ -101,7 +103,7 @@ empty number = Some []
 
 mounted : IsMounted table empty records 1 (base_of table)
 mounted = record {
-  past = record { epoch = 0; tops = [] };
+  past = record { epoch = 0; base = None; tops = [] };
   limit = λ number. 1000;
   proper = proper;
   small = omega arith;
@@ -124,17 +126,17 @@ mounted = record {
     each_bytes (suc zero) few = copy_bytes
     each_bytes (suc (suc number)) few = absurd (omega (arith, few))
 
-    each_copy : (copy : ℕ) → copy < 1 → copies.MountsCopy copy table (record { epoch = 0; tops = [] }) 1000 (Some []) (records (copy + 1))
+    each_copy : (copy : ℕ) → copy < 1 → copies.MountsCopy copy table (record { epoch = 0; base = None; tops = [] }) 1000 (Some []) (records (copy + 1))
     each_copy zero there = record {
       found = [];
-      granted = record { made = tt; order = each_none (Copy.MayStand 0 table (record { epoch = 0; tops = [] })) };
-      fine = (inl (refl, omega arith), record { granted = record { made = tt; order = each_none (Copy.MayStand 0 table (record { epoch = 0; tops = [] })) }; room = copy_room });
+      granted = record { made = tt; order = each_none (Copy.MayStand 0 table (record { epoch = 0; base = None; tops = [] })) };
+      fine = (inl (refl, omega arith), record { granted = record { made = tt; order = each_none (Copy.MayStand 0 table (record { epoch = 0; base = None; tops = [] })) }; room = copy_room });
       all = refl;
     }
     each_copy (suc copy) there = absurd (omega (arith, there))
 
-    each_start : (copy : ℕ) → copy < 1 → get_or (base_of table) copy [] ≡ restored_row [] 1 (start_tuple (base_of table) copy) (readings (grant_form table) (records (copy + 1)))
-    each_start zero there = ap (restored_row [] 1 (start_tuple (base_of table) 0)) (sym (made_tells_none table 0 []))
+    each_start : (copy : ℕ) → copy < 1 → get_or (base_of table) copy [] ≡ restored_row [] 1 (from_row (tuples_of_base table (base_in copy_base (records (copy + 1))))) (readings (grant_form table) (records (copy + 1)))
+    each_start zero there = ap (restored_row [] 1 (start_tuple (base_of table) 0)) (sym (made_told table (made_for 1 table) []))
     each_start (suc copy) there = absurd (omega (arith, there))
 
 -- THE IMAGES
