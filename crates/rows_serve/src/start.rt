@@ -25,6 +25,7 @@ pub(crate) fn mounted(
 {
     let past = Past {
         epoch,
+        base: None,
         tops: Tops::new(Vec::new(alloc)),
     };
     let made = match made_of(alloc, MADE)? {

@@ -36,6 +36,7 @@ fn past_by(alloc: Global, epoch: u32, words: &[&str]) -> Result<Past, AllocError
     }
     Ok(Past {
         epoch,
+        base: None,
         tops: Tops::new(tops),
     })
 }
