@@ -1,1 +1,4 @@
 pub mod Folding
+pub mod Front
+pub mod Opening
+pub mod Pair

@@ -9,7 +9,7 @@ use qc_disk::Disk;
 use qc_journal::{Fault, Journal};
 
 /// Drops what a journal has, and writes these two bodies. It is the spare of a pair: the active journal is not touched.
-pub fn fold<D: Disk>(journal: &mut Journal<D>, made: &[u8], base: &[u8]) -> Result<(), Fault>
+pub(crate) fn fold<D: Disk>(journal: &mut Journal<D>, made: &[u8], base: &[u8]) -> Result<(), Fault>
     requires up { IsUp journal.old }
     ensures up { OnOk result (IsUp journal.new) }
     ensures place { OnOk result (place_of journal.new ≡ behind_both made.now base.now) }

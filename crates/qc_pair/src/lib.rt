@@ -1,6 +1,14 @@
-//! A journal and its spare, of which one is folded into the other.
+//! A journal and its spare: the active one of them is folded into the other.
 #![tactic(auto)]
 
+mod fault;
 mod folding;
+mod front;
+mod kind;
+mod opening;
+mod pair;
 
-pub use folding::fold;
+pub use fault::PairNo;
+pub use kind::Kind;
+pub use opening::open;
+pub use pair::Pair;
