@@ -1,5 +1,5 @@
 -- How names stand in a history: who may act, and what is open.
-use Rattle.std.specs.Prelude.{ℕ, ◌≡◌, not, IsTrue, find, is_none, Option, None, Some, MatchOption}
+use Rattle.std.specs.Prelude.{ℕ, ◌≡◌, not, true, IsTrue, [], ◌∷◌, find, is_none, is_some, Option, None, Some, MatchOption}
 use Rattle.qc_names.specs.Name as name
 use Rattle.qc_event.specs.declared.event.Ask.{Ask}
 use Rattle.qc_event.specs.declared.event.How.{How}
@@ -44,6 +44,10 @@ AsksUnder past seat ask = asked past ask.access ≡ Some (record { seat = seat; 
 -- the first started child that has no end
 abbrev pub open_child : Past → Name → Option Name
 open_child past n = find (λ c. is_none (end past c)) (children past n)
+
+-- each top that was started has its end
+abbrev pub HasEnded : Past → Type 0
+HasEnded past = (number : ℕ) → is_some (start past (number ∷ [])) ≡ true → is_some (end past (number ∷ [])) ≡ true
 
 -- A name may go on where it is open and not dead.
 pub record IsGoing (past : Past) (n : Name) : Type 0 where

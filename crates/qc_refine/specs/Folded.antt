@@ -1,15 +1,12 @@
 -- When pairs of disks were folded: what a copy then begins with is what it held.
-use Rattle.std.specs.Prelude.{ℕ, ◌≡◌, ◌<◌, ◌⊎◌, true, is_some, List, [], ◌∷◌, length, map, slice_index_or}
+use Rattle.std.specs.Prelude.{ℕ, ◌≡◌, ◌<◌, ◌⊎◌, List, [], length, map, slice_index_or}
 use Rattle.std.specs.List.{range_with_len}
 use Rattle.qc_config.specs.declared.tuple.Tuple.{Tuple}
 use Rattle.qc_event.specs.Base.{Setting}
-use Rattle.qc_event.specs.History.{Past, start, end}
+use Rattle.qc_event.specs.History.{Past}
 use Rattle.qc_event.specs.Seen.{seen}
+use Rattle.qc_event.specs.Standing.{HasEnded}
 use Rattle.qc_refine.specs.Restored.{Kept, granted_at}
-
--- each top that was started has its end
-abbrev pub HasEnded : Past → Type 0
-HasEnded past = (number : ℕ) → is_some (start past (number ∷ [])) ≡ true → is_some (end past (number ∷ [])) ≡ true
 
 -- what a copy holds at the end of a history, by record
 abbrev pub seen_row : Setting → Past → ℕ → List Tuple

@@ -8,10 +8,10 @@ ghost use Rattle.qc_event.specs.Legal.{Legal};
 ghost use Rattle.qc_event.specs.Seats.{is_client, ledger_seat};
 ghost use Rattle.qc_event.specs.Seen.{seen};
 ghost use Rattle.qc_event.specs.Sound.{IsSound};
-ghost use Rattle.qc_event.specs.Standing.{open_child};
+ghost use Rattle.qc_event.specs.Standing.{HasEnded, open_child};
 ghost use Rattle.qc_event.specs.declared.event.Entry.{Entry};
 ghost use Rattle.qc_serial.specs.Serial.{final_values};
-ghost use Rattle.qc_refine.specs.Folded.{AreFoldedPairs, HasEnded};
+ghost use Rattle.qc_refine.specs.Folded.{AreFoldedPairs};
 ghost use Rattle.qc_refine.specs.Restored.{Kept, granted_at, restored, restored_setting};
 ghost use Rattle.qc_refine.specs.Standing.{StandBeside, committed_too};
 

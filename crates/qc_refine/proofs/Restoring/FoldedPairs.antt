@@ -15,7 +15,7 @@ use Rattle.qc_event.specs.Legal.{Legal, MayEnd, MayHappen}
 use Rattle.qc_event.specs.Listed.{listed}
 use Rattle.qc_event.specs.Seen.{changed_by, is_live_at, seen}
 use Rattle.qc_event.specs.Seats.{is_client, ledger_seat}
-use Rattle.qc_event.specs.Standing.{IsUser, open_child}
+use Rattle.qc_event.specs.Standing.{HasEnded, IsUser, open_child}
 use Rattle.qc_event.specs.Users.{MayStartTop}
 use Rattle.qc_event.specs.declared.event.Answer.{Answer}
 use Rattle.qc_event.specs.declared.event.Entry.{Entry}
@@ -40,7 +40,7 @@ use Rattle.qc_serial.proofs.MossVisible.{leaves}
 use Rattle.qc_codec.specs.declared.past.Logged.{Logged}
 use Rattle.qc_codec.specs.Restored.{restored_tuple}
 use Rattle.qc_refine.specs.Final.{is_for_good}
-use Rattle.qc_refine.specs.Folded.{HasEnded, IsFoldedPair, AreFoldedPairs}
+use Rattle.qc_refine.specs.Folded.{IsFoldedPair, AreFoldedPairs}
 use Rattle.qc_refine.specs.Restored.{Kept, granted_at, restored, restored_setting}
 use Rattle.qc_refine.specs.Standing.{AreNext, StandBeside, committed_too}
 use Rattle.qc_refine.proofs.Restoring.BelowReady.{committed_or}
