@@ -8,3 +8,5 @@ pub mod FoldedPairs
 pub mod ImageReadings
 pub mod RestoredImages
 pub mod PairImages
+pub mod ActiveImages
+pub mod GrownImages

@@ -48,42 +48,55 @@ pub record IsCopyBodies (table : Table) (begin : List Tuple) (granted : List Gra
 
 -- STANDING
 
--- The ledger's image tells the tops that it told before an epoch, and those since.
-pub record IsLedgerImage (table : Table) (epoch : ℕ) (before since : List Logged) (image : List ℕ) : Type 0 where
+-- The ledger's image, on the disk of this number, tells the tops that it told before an epoch, and those since.
+pub record IsLedgerImage (table : Table) (epoch : ℕ) (before since : List Logged) (disk : ℕ) (image : List ℕ) : Type 0 where
   pub bodies : List (List ℕ)
-  pub tells : IsLedgerBodies table epoch before since 0 bodies
+  pub tells : IsLedgerBodies table epoch before since disk bodies
   pub has : HasRecords bodies image
 
--- A copy's image tells with what it begins, and what the copy granted.
-pub record IsCopyImage (table : Table) (copy : ℕ) (begin : List Tuple) (granted : List Grant) (image : List ℕ) : Type 0 where
+-- A copy's image, on the disk of this number, tells with what it begins, and what the copy granted.
+pub record IsCopyImage (table : Table) (begin : List Tuple) (granted : List Grant) (disk : ℕ) (image : List ℕ) : Type 0 where
   pub bodies : List (List ℕ)
-  pub tells : IsCopyBodies table begin granted (copy + 1) bodies
+  pub tells : IsCopyBodies table begin granted disk bodies
   pub has : HasRecords bodies image
 
--- Images stand beside a history of an epoch over these start tuples: what they tell does.
-pub record IsStanding (table : Table) (base : List (List Tuple)) (epoch : ℕ) (past : Past) (images : List (List ℕ)) : Type 0 where
-  pub first : List (List Tuple)
-  pub before : Kept
-  pub now : Kept
-  pub beside : StandBeside first epoch (setting_of table base) before now past
-  pub many : length first ≡ table.copies
-  pub as_many : length images ≡ table.copies + 1
-  pub ledger : IsLedgerImage table epoch before.tops (logged past ++ beside.more) (slice_index_or images 0 [])
-  pub copies : (copy : ℕ) → copy < table.copies → IsCopyImage table copy (begins first copy) (granted_at now copy) (slice_index_or images (copy + 1) [])
+module _ (disk : ℕ → ℕ) where
+  -- Images stand beside a history of an epoch over these start tuples: what they tell does. The image at each place is of the disk
+  -- of that number.
+  pub record StandOn (table : Table) (base : List (List Tuple)) (epoch : ℕ) (past : Past) (images : List (List ℕ)) : Type 0 where
+    pub first : List (List Tuple)
+    pub before : Kept
+    pub now : Kept
+    pub beside : StandBeside first epoch (setting_of table base) before now past
+    pub many : length first ≡ table.copies
+    pub as_many : length images ≡ table.copies + 1
+    pub ledger : IsLedgerImage table epoch before.tops (logged past ++ beside.more) (disk 0) (slice_index_or images 0 [])
+    pub copies : (copy : ℕ) → copy < table.copies
+        → IsCopyImage table (begins first copy) (granted_at now copy) (disk (copy + 1)) (slice_index_or images (copy + 1) [])
 
--- The same, with few records that the history does not tell yet: of the ledger those of at most so many tops, of a copy at most
--- one, of a grant that was asked of it.
-pub record IsStandingWithin (most : ℕ) (table : Table) (base : List (List Tuple)) (epoch : ℕ) (past : Past) (images : List (List ℕ)) : Type 0 where
-  pub standing : IsStanding table base epoch past images
-  pub few_tops : length standing.beside.more ≤ most
-  pub few_grants : (copy : ℕ) → copy < table.copies → length (standing.beside.untold copy) ≤ 1
-  pub asked : (copy : ℕ) → copy < table.copies → All (IsAskedOf past copy) (standing.beside.untold copy)
+  -- The same, with few records that the history does not tell yet: of the ledger those of at most so many tops, of a copy at most
+  -- one, of a grant that was asked of it.
+  pub record StandOnWithin (most : ℕ) (table : Table) (base : List (List Tuple)) (epoch : ℕ) (past : Past) (images : List (List ℕ)) : Type 0 where
+    pub standing : StandOn table base epoch past images
+    pub few_tops : length standing.beside.more ≤ most
+    pub few_grants : (copy : ℕ) → copy < table.copies → length (standing.beside.untold copy) ≤ 1
+    pub asked : (copy : ℕ) → copy < table.copies → All (IsAskedOf past copy) (standing.beside.untold copy)
 
--- Images of a store that was just made, in its first epoch: nothing was logged, and nothing granted.
-pub record AreFresh (table : Table) (images : List (List ℕ)) : Type 0 where
-  pub as_many : length images ≡ table.copies + 1
-  pub ledger : IsLedgerImage table 1 [] [] (slice_index_or images 0 [])
-  pub copies : (copy : ℕ) → copy < table.copies → IsCopyImage table copy (map first_tuple table.records) [] (slice_index_or images (copy + 1) [])
+  -- Images of a store that was just made, in its first epoch: nothing was logged, and nothing granted.
+  pub record AreFreshOn (table : Table) (images : List (List ℕ)) : Type 0 where
+    pub as_many : length images ≡ table.copies + 1
+    pub ledger : IsLedgerImage table 1 [] [] (disk 0) (slice_index_or images 0 [])
+    pub copies : (copy : ℕ) → copy < table.copies → IsCopyImage table (map first_tuple table.records) [] (disk (copy + 1)) (slice_index_or images (copy + 1) [])
+
+-- each image is of the disk of its place
+abbrev pub IsStanding : Table → List (List Tuple) → ℕ → Past → List (List ℕ) → Type 0
+IsStanding = StandOn (λ place. place)
+
+abbrev pub IsStandingWithin : ℕ → Table → List (List Tuple) → ℕ → Past → List (List ℕ) → Type 0
+IsStandingWithin = StandOnWithin (λ place. place)
+
+abbrev pub AreFresh : Table → List (List ℕ) → Type 0
+AreFresh = AreFreshOn (λ place. place)
 
 -- WHAT IMAGES RESTORE
 

@@ -11,9 +11,10 @@ use Rattle.qc_codec.specs.declared.record.BaseRecord.{BaseRecord}
 use Rattle.qc_config.specs.declared.tuple.Tuple.{Tuple}
 use Rattle.qc_event.specs.declared.table.Table.{Table}
 use Rattle.qc_event.specs.History.{Past}
-use Rattle.qc_event.specs.Tables.{setting_of}
+use Rattle.qc_event.specs.Standing.{HasEnded}
+use Rattle.qc_event.specs.Tables.{first_tuple, setting_of}
 use Rattle.qc_journal.specs.Image.{HasRecords}
-use Rattle.qc_refine.specs.Folded.{HasEnded, begins, seen_row}
+use Rattle.qc_refine.specs.Folded.{begins, seen_row}
 use Rattle.qc_refine.specs.Images.{IsCopyBodies, IsLedgerBodies}
 use Rattle.qc_refine.specs.Listed.{logged}
 use Rattle.qc_refine.specs.Restored.{Kept, granted_at, restored}
@@ -89,6 +90,32 @@ pub record StandInPairsWithin (most : ℕ) (table : Table) (base : List (List Tu
   pub few_tops : length standing.beside.more ≤ most
   pub few_grants : (copy : ℕ) → copy < table.copies → length (standing.beside.untold copy) ≤ 1
   pub asked : (copy : ℕ) → copy < table.copies → All (IsAskedOf past copy) (standing.beside.untold copy)
+
+-- FRESH IMAGES
+
+-- A spare that was just made has no record, or only that of how it was made.
+abbrev pub IsUnused : Table → ℕ → List (List ℕ) → Type 0
+IsUnused table disk bodies = (bodies ≡ []) ⊎ (bodies ≡ body.made.spell (made_for disk table) ∷ [])
+
+-- Images of pairs of a store that was just made, in its first epoch: nothing was logged, nothing granted, and no spare was used.
+pub record AreFreshPairs (table : Table) (images : List (List ℕ)) : Type 0 where
+  pub as_many : length images ≡ table.copies + 1 + (table.copies + 1)
+  pub ledger : TellsLedger table images (IsLedgerBodies table 1 [] [])
+  pub copies : (copy : ℕ) → copy < table.copies → TellsCopy table images copy (IsCopyBodies table (map first_tuple table.records) [])
+  pub ledger_spare : IsUnused table 17 ledger.spare
+  pub copy_spares : (copy : ℕ) (there : copy < table.copies) → IsUnused table (copy + 1 + 17) (copies copy there).spare
+
+-- ACTIVE IMAGES
+
+-- bodies on the disk of a number are those of this image, which is of this disk
+abbrev pub AreOfImage : ℕ → List ℕ → ℕ → List (List ℕ) → Type 0
+AreOfImage disk image number bodies = (number ≡ disk) × HasRecords bodies image
+
+-- Images are the active ones of pairs, the image at each place of the disk of that number.
+pub record AreActive (table : Table) (disk : ℕ → ℕ) (images actives : List (List ℕ)) : Type 0 where
+  pub as_many : length images ≡ table.copies + 1 + (table.copies + 1)
+  pub ledger : TellsLedger table images (AreOfImage (disk 0) (image_of table actives 0))
+  pub copies : (copy : ℕ) → copy < table.copies → TellsCopy table images copy (AreOfImage (disk (copy + 1)) (image_of table actives (copy + 1)))
 
 -- WHAT IMAGES RESTORE
 

@@ -9,7 +9,7 @@ ghost use Rattle.qc_event.specs.Legal.{Legal};
 ghost use Rattle.qc_event.specs.Sound.{IsSound};
 ghost use Rattle.qc_event.specs.Tables.{base_of, setting_of};
 ghost use Rattle.qc_serial.specs.Serial.{final_values};
-ghost use Rattle.qc_refine.specs.Images.{AreFresh, CarryFinal, IsStanding, Restores};
+ghost use Rattle.qc_refine.specs.Images.{AreFreshOn, CarryFinal, Restores, StandOn};
 ghost use Rattle.qc_refine.specs.Restored.{Kept, restored_setting};
 ghost use Rattle.qc_refine.specs.Standing.{AreNext, StandBeside, committed_too};
 
@@ -20,7 +20,8 @@ ghost use Rattle.qc_refine.specs.Standing.{AreNext, StandBeside, committed_too};
 /// `records` says it of lists of records, and `images` of bytes: where images stand beside a legal history over
 /// sound start tuples, a run may start from what they restore, for its start is sound again. The value of the
 /// greatest version over all copies is the serial machine's (Gifford). They restore one base, and there is one.
-/// Fresh images stand beside the empty history.
+/// Fresh images stand beside the empty history. All this holds whatever the numbers of the images' disks are, so of
+/// a pair of disks the image of either may be among them.
 ///
 /// That the images of a run's disks stand beside its history is a premise here. The clause `images_stand` of
 /// `qc_run`'s `run` gives it.
@@ -33,16 +34,18 @@ pub fn restored_values_are_serial()
         → (s : StandBeside first epoch setting before now past)
         → IsSound (restored_setting first setting now)
         (final_values values (committed_too past s.more)) }
-    ensures images { (table : Table) (images : List (List ℕ)) (base : List (List Tuple))
-        → (epoch : ℕ) (past : Past) (s : IsStanding table base epoch past images)
+    ensures images { (disk : ℕ → ℕ) (table : Table) (images : List (List ℕ))
+        → (base : List (List Tuple)) (epoch : ℕ) (past : Past)
+        → (s : StandOn disk table base epoch past images)
         → (tuples : List (List Tuple)) → Restores table images tuples → (values : List ℕ)
         → Legal (setting_of table base) past → IsSound (setting_of table base) values
         → CarryFinal table values (committed_too past s.beside.more) tuples }
-    ensures some { (table : Table) (images : List (List ℕ)) (base : List (List Tuple))
-        → (epoch : ℕ) (past : Past) → IsStanding table base epoch past images
+    ensures some { (disk : ℕ → ℕ) (table : Table) (images : List (List ℕ))
+        → (base : List (List Tuple)) (epoch : ℕ) (past : Past)
+        → StandOn disk table base epoch past images
         → (tuples : List (List Tuple)) × Restores table images tuples }
     ensures one { (table : Table) (images : List (List ℕ)) (tuples others : List (List Tuple))
         → Restores table images tuples → Restores table images others → tuples ≡ others }
-    ensures fresh { (table : Table) (images : List (List ℕ))
-        → AreFresh table images → IsStanding table (base_of table) 1 [] images }
+    ensures fresh { (disk : ℕ → ℕ) (table : Table) (images : List (List ℕ))
+        → AreFreshOn disk table images → StandOn disk table (base_of table) 1 [] images }
 {}

@@ -1,5 +1,5 @@
 -- What is read from bodies that tell values is these values, whatever bodies an image is read as.
-use Rattle.std.proofs.Common.{◌≡◌, ℕ, ◌+◌, List, [], ◌∷◌, ◌++◌, length, refl, sym, ap, ap₂, ◌∙◌, subst}
+use Rattle.std.proofs.Common.{◌≡◌, ℕ, List, [], ◌∷◌, ◌++◌, length, refl, sym, ap, ap₂, ◌∙◌, subst}
 use Rattle.std.specs.Prelude.{All, Option, None, Some, map, option_to_list}
 use Rattle.std.specs.List.{cons_option, filter_map}
 use Rattle.std.proofs.lemmas.List.Elements.{All-head, All-tail, filter_map-append}
@@ -110,10 +110,10 @@ module _ (table : Table) where
 
 -- WHAT IMAGES TELL
 
--- whatever bodies are read of an image tell what it does
-module _ (table : Table) (image : List ℕ) (bodies : List (List ℕ)) (has : HasRecords bodies image) where
-  pub ledger_tells : (epoch : ℕ) (before since : List Logged) → IsLedgerImage table epoch before since image → IsLedgerBodies table epoch before since 0 bodies
-  ledger_tells epoch before since is = subst (IsLedgerBodies table epoch before since 0) (sym (records-same image is.bodies bodies is.has has)) is.tells
+-- whatever bodies are read of an image, on the disk of this number, tell what it does
+module _ (table : Table) (image : List ℕ) (bodies : List (List ℕ)) (has : HasRecords bodies image) (disk : ℕ) where
+  pub ledger_tells : (epoch : ℕ) (before since : List Logged) → IsLedgerImage table epoch before since disk image → IsLedgerBodies table epoch before since disk bodies
+  ledger_tells epoch before since is = subst (IsLedgerBodies table epoch before since disk) (sym (records-same image is.bodies bodies is.has has)) is.tells
 
-  pub copy_tells : (copy : ℕ) (begin : List Tuple) (granted : List Grant) → IsCopyImage table copy begin granted image → IsCopyBodies table begin granted (copy + 1) bodies
-  copy_tells copy begin granted is = subst (IsCopyBodies table begin granted (copy + 1)) (sym (records-same image is.bodies bodies is.has has)) is.tells
+  pub copy_tells : (begin : List Tuple) (granted : List Grant) → IsCopyImage table begin granted disk image → IsCopyBodies table begin granted disk bodies
+  copy_tells begin granted is = subst (IsCopyBodies table begin granted disk) (sym (records-same image is.bodies bodies is.has has)) is.tells

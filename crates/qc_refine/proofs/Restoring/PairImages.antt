@@ -1,6 +1,8 @@
 -- What images of pairs restore that stand beside a legal history is sound for the values after it.
-use Rattle.std.proofs.Common.{◌≡◌, ℕ, ◌+◌, ◌<◌, inl, inr, ⊎_elim, List, [], ◌++◌, length, get_or, sym, ap, ◌∙◌, subst, arith}
+use Rattle.std.proofs.Common.{◌≡◌, ℕ, zero, suc, ◌+◌, ◌-◌, ◌<◌, inl, inr, ⊎_elim, List, [], ◌++◌, length, get_or, refl, sym, ap, ◌∙◌, subst, arith}
 use Rattle.std.specs.Prelude.{Some}
+use Rattle.std.proofs.lemmas.Bool.{cases_lt}
+use Rattle.std.proofs.lemmas.List.{get_or_past}
 use Rattle.std.proofs.lemmas.List.Elements.{All-cons, All-nil}
 use Rattle.std.proofs.lemmas.List.FromFn.{length-map-range_with_len, get_or-map-range_with_len}
 use Rattle.qc_codec.specs.Base.{active, active_disk, base_in, copy_base, tuples_of_base}
@@ -13,17 +15,18 @@ use Rattle.qc_event.specs.declared.table.Table.{Table}
 use Rattle.qc_event.specs.History.{Past}
 use Rattle.qc_event.specs.Legal.{Legal}
 use Rattle.qc_event.specs.Sound.{IsSound}
-use Rattle.qc_event.specs.Tables.{setting_of}
+use Rattle.qc_event.specs.Standing.{HasEnded}
+use Rattle.qc_event.specs.Tables.{base_of, setting_of}
 use Rattle.qc_journal.proofs.Readings.{records-same}
 use Rattle.qc_journal.specs.Image.{HasRecords}
-use Rattle.qc_refine.specs.Folded.{HasEnded, begins, seen_row, IsOpenPair, IsFoldedPair, AreFoldedPairs}
+use Rattle.qc_refine.specs.Folded.{begins, seen_row, IsOpenPair, IsFoldedPair, AreFoldedPairs}
 use Rattle.qc_refine.specs.Images.{CarryFinal, IsCopyBodies}
 use Rattle.qc_refine.specs.Listed.{logged}
-use Rattle.qc_refine.specs.Pairs.{copy_bodies, first_in, IsFoldedCopy, ledger_bodies, RestoreInPairs, StandInPairs, TellsPair, kept_in_pairs}
+use Rattle.qc_refine.specs.Pairs.{AreFreshPairs, IsFoldedCopy, RestoreInPairs, StandInPairs, TellsCopy, TellsLedger, TellsPair, copy_bodies, first_in, kept_in_pairs, ledger_bodies}
 use Rattle.qc_refine.specs.Restored.{granted_at, restored}
 use Rattle.qc_refine.specs.Standing.{committed_too}
 use Rattle.qc_refine.proofs.Restoring.ImageReadings.{copy_told, ledger_told}
-use Rattle.qc_refine.proofs.Restoring.RestoredImages.{folded_carry}
+use Rattle.qc_refine.proofs.Restoring.RestoredImages.{folded_carry, fresh_begins, fresh_beside, fresh_many}
 
 -- WHAT IS READ
 
@@ -42,7 +45,7 @@ folded_copy_told table epoch held disk bodies is =
 -- READ AGAIN
 
 -- whatever bodies are read of the images of a pair, the active ones tell what they do
-tells_read : (form : Table → Form BaseRecord) (disk : ℕ) (Tells : ℕ → List (List ℕ) → Type 0) (image image' : List ℕ) (own spare : List (List ℕ)) → TellsPair form disk Tells image image' → HasRecords own image → HasRecords spare image'
+pub tells_read : (form : Table → Form BaseRecord) (disk : ℕ) (Tells : ℕ → List (List ℕ) → Type 0) (image image' : List ℕ) (own spare : List (List ℕ)) → TellsPair form disk Tells image image' → HasRecords own image → HasRecords spare image'
     → Tells (active_disk form own spare disk) (active form own spare)
 tells_read form disk Tells image image' own spare t has has_spare =
     subst (λ (a : List (List ℕ)). Tells (active_disk form a spare disk) (active form a spare)) (sym (records-same image t.own own t.has has))
@@ -107,3 +110,63 @@ pub pairs_restore_one : (table : Table) (images : List (List ℕ)) (one two : Li
 pairs_restore_one table images one two r s =
     let same : r.bodies ≡ s.bodies = λ i place. records-same (get_or images place []) (s.bodies place) (r.bodies place) (s.has place) (r.has place) i in
     r.same ∙ ap (λ bodies. restored (first_in table bodies) (length table.records) (kept_in_pairs table bodies)) same ∙ sym s.same
+
+-- WHAT PAIRS TELL
+
+-- what is told of the active bodies of a pair may be told otherwise
+pub told_too : {form : Table → Form BaseRecord} {disk : ℕ} {image image' : List ℕ} (Tells Tells' : ℕ → List (List ℕ) → Type 0) → ((number : ℕ) (bodies : List (List ℕ)) → Tells number bodies → Tells' number bodies)
+    → TellsPair form disk Tells image image' → TellsPair form disk Tells' image image'
+told_too Tells Tells' follows t = record { own = t.own; spare = t.spare; has = t.has; has_spare = t.has_spare; tells = follows _ _ t.tells }
+
+-- whatever bodies
+abbrev pub AnyBodies : ℕ → List (List ℕ) → Type 0
+AnyBodies number bodies = Unit {0}
+
+pub some_told : {form : Table → Form BaseRecord} {disk : ℕ} {image image' : List ℕ} (Tells : ℕ → List (List ℕ) → Type 0) → TellsPair form disk Tells image image' → TellsPair form disk AnyBodies image image'
+some_told Tells t = told_too Tells AnyBodies (λ number bodies is. tt) t
+
+-- Where each pair has records, so has each image, and they restore something.
+module _ (table : Table) (images : List (List ℕ)) (as_many : length images ≡ table.copies + 1 + (table.copies + 1))
+    (ledger : TellsLedger table images AnyBodies) (copies : (copy : ℕ) → copy < table.copies → TellsCopy table images copy AnyBodies) where
+  abbrev HasSome : ℕ → Type 0
+  HasSome place = (bodies : List (List ℕ)) × HasRecords bodies (get_or images place [])
+
+  own_have : (number : ℕ) → number < table.copies + 1 → HasSome number
+  own_have zero there = (ledger.own, ledger.has)
+  own_have (suc copy) there = let t = copies copy (omega (arith, there)) in subst HasSome (omega arith) (t.own, t.has)
+
+  spares_have : (number : ℕ) → number < table.copies + 1 → HasSome (table.copies + 1 + number)
+  spares_have zero there = (ledger.spare, ledger.has_spare)
+  spares_have (suc copy) there = let t = copies copy (omega (arith, there)) in subst HasSome (omega arith) (t.spare, t.has_spare)
+
+  pub each_has : (place : ℕ) → HasSome place
+  each_has place = elim (cases_lt place (table.copies + 1)) [
+    | inl own ↦ own_have place own
+    | inr behind ↦ elim (cases_lt (place - (table.copies + 1)) (table.copies + 1)) [
+      | inl spare ↦ subst HasSome (omega (arith, behind)) (spares_have (place - (table.copies + 1)) spare)
+      | inr none ↦ ([], inl (refl, omega (arith, ap length (get_or_past images place [] (omega (arith, as_many, behind, none))))))
+    ]
+  ]
+
+  pub each_restored : (tuples : List (List Tuple)) × RestoreInPairs table images tuples
+  each_restored = (_, record { bodies = λ place. (each_has place).0; has = λ place. (each_has place).1; same = refl })
+
+-- images that stand restore something
+pub pairs_restore_some : (table : Table) (images : List (List ℕ)) (base : List (List Tuple)) (epoch : ℕ) (past : Past) → StandInPairs table base epoch past images → (tuples : List (List Tuple)) × RestoreInPairs table images tuples
+pairs_restore_some table images base epoch past standing =
+    each_restored table images standing.as_many
+    (⊎_elim (λ t. some_told _ t) (λ t. some_told _ t.1) standing.ledger)
+    (λ copy there. ⊎_elim (λ t. some_told _ t) (λ t. some_told _ t.1) (standing.copies copy there))
+
+-- fresh images stand beside the empty history
+pub fresh_pairs_stand : (table : Table) (images : List (List ℕ)) → AreFreshPairs table images → StandInPairs table (base_of table) 1 [] images
+fresh_pairs_stand table images fresh = record {
+  first = base_of table;
+  before = record { tops = []; granted = [] };
+  now = record { tops = []; granted = [] };
+  beside = fresh_beside table;
+  many = fresh_many table;
+  as_many = fresh.as_many;
+  ledger = inl fresh.ledger;
+  copies = λ copy there. inl (told_too _ _ (λ number bodies is. subst (λ begin. IsCopyBodies table begin [] number bodies) (fresh_begins table copy there) is) (fresh.copies copy there));
+}
