@@ -1,2 +1,4 @@
+mod Bases
 mod Folds
 mod Fronts
+pub mod Halves

@@ -1,3 +1,4 @@
+pub mod Fold
 pub mod Folding
 pub mod Front
 pub mod Opening

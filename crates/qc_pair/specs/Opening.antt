@@ -1,5 +1,5 @@
 -- What an opening gives, why it is refused, and what it leaves.
-use Rattle.std.specs.Prelude.{ℕ, ◌≡◌, ◌<◌, ◌+◌, ◌⊎◌, List, Option, IfSome, IsSome, Result, Ok, Err, Vec}
+use Rattle.std.specs.Prelude.{ℕ, ◌≡◌, ◌<◌, ◌+◌, ◌⊎◌, Bool, if◌then◌else◌, List, Option, IfSome, IsSome, Result, Ok, Err, Vec}
 use Rattle.std.specs.declared.alloc.Global.{Global}
 use Rattle.qc_codec.specs.Base.{active, is_swapped}
 use Rattle.qc_codec.specs.declared.image.ImageFault.{ImageFault}
@@ -12,9 +12,11 @@ use Rattle.qc_journal.specs.Journal.{Keeps, disk_of}
 use Rattle.qc_journal.specs.declared.fault.Fault.{Fault}
 use Rattle.qc_journal.specs.declared.fault.Fault.TheVariants as fault
 use Rattle.qc_pair.specs.Front.{base_form, number_in, IsFrontFault, IsGrammar, MayBegin}
-use Rattle.qc_pair.specs.Pair.{number_of, own_of, spare_of, swapped}
+use Rattle.qc_pair.specs.Fold.{active_number, other_in, swapped_in}
+use Rattle.qc_pair.specs.Pair.{number_at, number_of, own_of, spare_of, swapped}
 use Rattle.qc_pair.specs.declared.fault.PairNo.{PairNo}
 use Rattle.qc_pair.specs.declared.fault.PairNo.TheVariants.{Disk, Image, Memory}
+use Rattle.qc_pair.specs.declared.fold.Fold.{Fold}
 use Rattle.qc_pair.specs.declared.kind.Kind.{Kind}
 use Rattle.qc_pair.specs.declared.pair.Pair.{Pair}
 
@@ -67,18 +69,47 @@ module _ (kind : Kind) (who : ℕ) where
     IsPairRefusal (Image bad) = IsImageNo bad.disk bad.fault
     IsPairRefusal Memory = Unit {0}
 
-    -- A pair was opened over these bodies of the disk and of the spare, which tell that these are active.
-    pub record OpensPair {D : Type 0} {g : Ghosts D} (pair : Pair D g) (bodies : List (List ℕ)) : Type 0 where
+    -- The disks have bodies which tell that these are active, the spare's or the disk's own.
+    pub record HaveActive (is_spare : Bool) (bodies : List (List ℕ)) : Type 0 where
       pub own : List (List ℕ)
       pub spare : List (List ℕ)
       pub has_own : IfSome told (HasRecords own)
       pub has_spare : IfSome spare_told (HasRecords spare)
       pub tell : TellWhich own spare
       pub are_active : bodies ≡ active (base_form kind) own spare
+      pub swapped_is : is_spare ≡ is_swapped (base_form kind) own spare
+
+    -- A pair was opened over bodies of which these are active.
+    pub record OpensPair {D : Type 0} {g : Ghosts D} (pair : Pair D g) (bodies : List (List ℕ)) : Type 0 where
+      pub have : HaveActive (swapped pair) bodies
       pub number_is : number_of pair ≡ number_in kind bodies
-      pub swapped_is : swapped pair ≡ is_swapped (base_form kind) own spare
-      pub keeps_own : IsSome told → Keeps (own_of pair) own
-      pub keeps_spare : IsSome spare_told → Keeps (spare_of pair) spare
+      pub keeps_own : IsSome told → Keeps (own_of pair) have.own
+      pub keeps_spare : IsSome spare_told → Keeps (spare_of pair) have.spare
+
+    -- what the other disk tells, and what it has
+    abbrev pub other_told : Bool → Option (List ℕ)
+    other_told is_spare = if is_spare then told else spare_told
+
+    -- A pair that was opened over bodies of which these are active may be folded: the other journal keeps what it had.
+    pub record OpensFold {D : Type 0} {g : Ghosts D} (fold : Fold D g) (bodies : List (List ℕ)) : Type 0 where
+      pub have : HaveActive (swapped_in fold) bodies
+      pub number_is : active_number fold ≡ number_in kind bodies
+      pub keeps_other : IsSome (other_told (swapped_in fold)) → Keeps (other_in fold) (if swapped_in fold then have.own else have.spare)
+
+    -- what the active disk tells
+    abbrev pub active_told : Bool → Option (List ℕ)
+    active_told is_spare = if is_spare then spare_told else told
+
+    -- a pair is refused for what its active bodies are on their disk
+    abbrev pub IsActiveNo : (ℕ → List (List ℕ) → ImageFault → Type 0) → PairNo → Type 0
+    IsActiveNo HasFault (Disk n) = ⊥
+    IsActiveNo HasFault (Image bad) = (is_spare : Bool) × (bodies : List (List ℕ)) × HaveActive is_spare bodies × (bad.disk ≡ number_at is_spare who)
+        × (IsSome (active_told is_spare) → HasFault bad.disk bodies bad.fault)
+    IsActiveNo HasFault Memory = ⊥
+
+    -- its mounting may be refused: as a pair, or then for its active bodies
+    abbrev pub IsMountNo : (ℕ → List (List ℕ) → ImageFault → Type 0) → PairNo → Type 0
+    IsMountNo HasFault refusal = IsPairRefusal refusal ⊎ IsActiveNo HasFault refusal
 
 -- What the mounting of a disk leaves of it at each moment, and what it costs.
 pub record MountsDisk {D : Type 0} (view : D → DiskView) (Failed : Type 0) (old new : D) : Type 0 where

@@ -1,8 +1,12 @@
 -- The parts of a pair.
-use Rattle.std.specs.Prelude.{ℕ, Bool, if◌then◌else◌}
+use Rattle.std.specs.Prelude.{ℕ, ◌+◌, Bool, if◌then◌else◌}
 use Rattle.qc_disk.specs.declared.disk.Disk.{Ghosts}
 use Rattle.qc_journal.specs.declared.journal.Journal.{Journal}
 use Rattle.qc_pair.specs.declared.pair.Pair.{Pair}
+
+-- the number of a disk, or of its spare
+abbrev pub number_at : Bool → ℕ → ℕ
+number_at is_spare who = if is_spare then who + 17 else who
 
 module _ {D : Type 0} {g : Ghosts D} (pair : Pair D g) where
   -- the journal that is read

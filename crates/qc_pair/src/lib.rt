@@ -2,6 +2,7 @@
 #![tactic(auto)]
 
 mod fault;
+mod fold;
 mod folding;
 mod front;
 mod kind;
@@ -9,6 +10,7 @@ mod opening;
 mod pair;
 
 pub use fault::PairNo;
+pub use fold::Fold;
 pub use kind::Kind;
 pub use opening::open;
 pub use pair::Pair;

@@ -1,28 +1,23 @@
 //! A pair of journals.
-ghost use Rattle.std.specs.Prelude.{ℕ, ◌≡◌, ◌+◌, ◌∷◌, ◌≤◌, ◌^◌, List, [], IfErr, OnOk, IsErrOf, Err, None, Some, if◌then◌else◌, nat_lt};
-ghost use Rattle.qc_disk.specs.Disk.{HasCause, CountsOnce, LeavesOnly};
-ghost use Rattle.qc_journal.specs.Journal.{disk_of, limit_of, place_of, IsUp, Keeps};
-ghost use Rattle.qc_journal.specs.declared.fault.Fault.TheVariants.{Full};
-ghost use Rattle.qc_pair.specs.Folding.{behind_both, IsFolding, IsFoldNo, IsFullFold};
+ghost use Rattle.std.specs.Prelude.{◌≡◌, ◌+◌, ◌<◌, ◌≤◌, if◌then◌else◌};
+ghost use Rattle.qc_journal.specs.Journal.{disk_of};
+ghost use Rattle.qc_pair.specs.Fold.{active_number, copies_in, epoch_in, made_in, other_in, swapped_in};
 
-use crate::folding::fold;
+use crate::fold::Fold;
 use qc_disk::Disk;
-use qc_journal::{Fault, Journal};
+use qc_journal::{Body, Journal};
 
-/// Folds have the numbers up to this one.
-const LAST: u64 = 9_223_372_036_854_775_808;
-
-/// A journal and its spare.
+/// The journals of a disk and of its spare: the active one, and the one into which it may be folded.
 #[derive(Drop)]
 pub struct Pair<D: Disk> {
-    active: Journal<D>,
+    pub active: Journal<D>,
     other: Journal<D>,
     number: u64,
     is_swapped: bool,
 }
 
 impl<D: Disk> Pair<D> {
-    ghost use Rattle.qc_pair.specs.Pair.{active_of, number_of, other_of, own_of, spare_of, swapped};
+    ghost use Rattle.qc_pair.specs.Pair.{active_of, number_at, number_of, other_of, own_of, spare_of, swapped};
 
     /// A pair of the journal of a disk and that of its spare.
     pub(crate) fn new(own: Journal<D>, spare: Journal<D>, number: u64, is_swapped: bool) -> Self
@@ -46,22 +41,10 @@ impl<D: Disk> Pair<D> {
         }
     }
 
-    /// The number of the next fold, none where the last has the number 2^63.
-    pub fn next(&self) -> Option<u64>
-        ensures { result ≡ (if nat_lt (number_of self.now) (2 ^ 63)
-            then Some (number_of self.now + 1) else None) }
-    {
-        if self.number < LAST {
-            Some(self.number + 1)
-        } else {
-            None
-        }
-    }
-
-    /// The number of the active disk: that of the spare where they are swapped.
+    /// The number of the active disk of the pair of a disk of this number.
     pub fn active_disk(&self, who: u8) -> u8
         requires { who ≤ 16 }
-        ensures { result ≡ (if swapped self.now then who + 17 else who) }
+        ensures { result ≡ number_at (swapped self.now) who }
     {
         if self.is_swapped { who + 17 } else { who }
     }
@@ -74,36 +57,28 @@ impl<D: Disk> Pair<D> {
         if self.is_swapped { who } else { who + 17 }
     }
 
-    /// Drops what the other journal has, and writes these two bodies. The active journal is not touched.
-    pub fn fold(&mut self, made: &[u8], base: &[u8]) -> Result<(), Fault>
-        requires up { IsUp (other_of self.old) }
-        ensures up { OnOk result (IsUp (other_of self.new)) }
-        ensures place { OnOk result (place_of (other_of self.new) ≡ behind_both made.now base.now) }
-        ensures limit { limit_of (other_of self.new) ≡ limit_of (other_of self.old) }
-        ensures active { active_of self.new ≡ active_of self.old }
-        ensures number { number_of self.new ≡ number_of self.old }
-        ensures swapped { swapped self.new ≡ swapped self.old }
-
-        // Full comes where one of them would pass the limit, and nowhere else.
-        ensures full { (place : ℕ) → result ≡ Err (Full place)
-            → IsFullFold (limit_of (other_of self.old)) made.now base.now place }
-        ensures room { OnOk result ((place : ℕ)
-            → IsFullFold (limit_of (other_of self.old)) made.now base.now place → ⊥) }
-        ensures fault { IfErr result IsFoldNo }
-
-        // Where the disk tells its bytes, each image has both after `Ok`; and at any moment of the call what it had,
-        // none, the first, or both.
-        ensures keeps { OnOk result ((bodies : List (List ℕ)) → Keeps (other_of self.old) bodies
-            → Keeps (other_of self.new) (made.now ∷ base.now ∷ [])) }
-        ensures any_moment { (bodies : List (List ℕ)) → Keeps (other_of self.old) bodies
-            → LeavesOnly D.view (disk_of (other_of self.old)) (disk_of (other_of self.new))
-            (IsFolding bodies made.now base.now) }
-        ensures cause { HasCause (D.view (disk_of (other_of self.old))).faults
-            (D.view (disk_of (other_of self.new))).faults (IsErrOf result Fault.Disk) }
-        ensures counts_once { CountsOnce (D.view (disk_of (other_of self.old))).faults
-            (D.view (disk_of (other_of self.new))).faults (IsErrOf result Fault.Disk) }
+    /// The active journal, and the other one with what a fold of this epoch writes there: the body that says how its
+    /// disk was made, of a store of so many copies.
+    pub fn into_fold(self, made: Body, epoch: u32, copies: u8) -> (Journal<D>, Fold<D>)
+        requires begun { 0 < epoch }
+        requires few { copies ≤ 16 }
+        ensures active { result.0 ≡ active_of self }
+        ensures other { other_in result.1 ≡ other_of self }
+        ensures number { active_number result.1 ≡ number_of self }
+        ensures swapped { swapped_in result.1 ≡ swapped self }
+        ensures made { made_in result.1 ≡ made.items }
+        ensures epoch { epoch_in result.1 ≡ epoch }
+        ensures copies { copies_in result.1 ≡ copies }
     {
-        fold(&mut self.other, made, base)
+        let fold = Fold {
+            other: self.other,
+            number: self.number,
+            is_swapped: self.is_swapped,
+            made,
+            epoch,
+            copies,
+        };
+        (self.active, fold)
     }
 
     /// The disk, and then the spare, whichever is active.

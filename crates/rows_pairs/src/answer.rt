@@ -1,23 +1,19 @@
 //! What an opening gave, as text.
-ghost use Rattle.std.specs.Prelude.{◌≤◌};
 
 use qc_disk::Disk;
 use qc_journal::Body;
-use qc_pair::Pair;
 use rows_kit::records;
 use std::alloc::{AllocError, Global};
 
 /// Which disk is active and which is not, the number of the next fold, and the records.
-pub(crate) fn opened<D: Disk>(
+pub(crate) fn opened(
     alloc: Global,
-    pair: &Pair<D>,
-    who: u8,
+    active: u8,
+    other: u8,
+    next: Option<u64>,
     bodies: &[Body],
-) -> Result<String, AllocError>
-    requires { who ≤ 16 }
-{
-    let (active, other) = (pair.active_disk(who), pair.other_disk(who));
-    let next = match pair.next() {
+) -> Result<String, AllocError> {
+    let next = match next {
         Some(next) => next.to_string(alloc)?,
         None => String::from_str(alloc, "none")?,
     };

@@ -1,6 +1,7 @@
 //! A case: the disks that it has.
 
 use crate::opening::pair_step;
+use crate::wish::Wish;
 use qc_disk::Shop;
 use rows_kit::{Case, Shelf, Step, put_hex, said};
 use std::alloc::{AllocError, Global};
@@ -27,12 +28,15 @@ impl PairCase {
         if who > 16 {
             return said(self.alloc, "no such disk");
         }
+        let Some(wish) = Wish::of(self.alloc, step)? else {
+            return said(self.alloc, "no such fold");
+        };
         let mut shop = self.shelf.shop()?;
         let disk = shop.obtain(self.alloc, "", 0);
         let spare = shop.obtain(self.alloc, "", 1);
         match (disk, spare) {
             (Ok(disk), Ok(spare)) => {
-                let (text, disks) = pair_step(self.alloc, disk, spare, who, step)?;
+                let (text, disks) = pair_step(self.alloc, disk, spare, who, step, wish)?;
                 self.shelf.take_back(&disks)?;
                 self.shelf.keep()?;
                 Ok(text)

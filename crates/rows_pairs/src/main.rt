@@ -8,7 +8,9 @@
 //! - `fail N CALL done CALL not ..`: disk N fails at these calls, its work done or not.
 //! - `open WHO KIND`: opens the pair of disk WHO, of the kind `ledger` or `copy`, and tells which disk is active, which is
 //!   not, the number of the next fold and the records, or why it is refused; and the length of both disks behind it.
-//! - `fold WHO KIND MADE BASE`: opens it so, folds into the other journal these two bodies, and tells how that went.
+//! - `fold WHO KIND MADE EPOCH COPIES TUPLE ..`: opens it so, folds into the other journal a base of this epoch behind the
+//!   body MADE, of a store of so many copies, and tells how that went. TUPLE is `VERSION,VALUE,GENERATION,READ,WRITE,VOTES`
+//!   with votes as `1,1`.
 //! - `disks`: the bytes of each disk.
 //!
 //! The disks that come back are those of the case then.
@@ -17,6 +19,8 @@
 mod answer;
 mod case;
 mod opening;
+mod tuple;
+mod wish;
 
 use case::PairCase;
 use rows_kit::{is_title, print_steps};

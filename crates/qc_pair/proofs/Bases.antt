@@ -1,0 +1,16 @@
+-- A base of numbers in range fits its form.
+use Rattle.std.proofs.Common.{◌≡◌, ℕ, ◌<◌, ◌≤◌, ◌^◌, true, length, refl, arith}
+use Rattle.std.specs.Prelude.{nat_lt}
+use Rattle.std.specs.List.{All}
+use Rattle.std.proofs.lemmas.Bool.{and_from, le-leb, lt-ltb}
+use Rattle.qc_config.specs.declared.tuple.Tuple.{Tuple}
+use Rattle.qc_codec.specs.Bodies as body
+use Rattle.qc_codec.specs.Fields.{Layout, long, tuple, word}
+use Rattle.qc_codec.specs.declared.record.BaseRecord.{BaseRecord}
+
+pub base_fits : (layout : Layout) (b : BaseRecord) → 0 < b.number → b.number ≤ 2 ^ 63 → 0 < b.epoch → b.epoch < 2 ^ 32 → All (tuple layout).fits b.tuples
+    → (body.base layout (length b.tuples)).fits b
+unfolding body.base body.folded word long
+base_fits layout b some last begun small fit =
+    let is_fold : body.is_fold b.number ≡ true = and_from (nat_lt 0 b.number) _ (lt-ltb 0 b.number some) (le-leb b.number (2 ^ 63) last) in
+    (((omega (arith, last), is_fold), ((small, lt-ltb 0 b.epoch begun), (refl, fit))), tt)

@@ -1,0 +1,65 @@
+-- The journal of a pair into which the active one is folded, and what a fold writes there.
+use Rattle.std.specs.Prelude.{ℕ, ◌≡◌, ◌<◌, ◌≤◌, ◌+◌, ◌^◌, ◌⊎◌, Bool, List, [], ◌∷◌, length}
+use Rattle.qc_codec.specs.Bodies as body
+use Rattle.qc_codec.specs.Fields.{format_1}
+use Rattle.qc_config.specs.declared.tuple.Tuple.{Tuple}
+use Rattle.qc_disk.specs.declared.disk.Disk.{Ghosts}
+use Rattle.qc_journal.specs.Journal.{limit_of, IsUp}
+use Rattle.qc_journal.specs.declared.journal.Journal.{Journal}
+use Rattle.qc_pair.specs.Folding.{IsFullFold}
+use Rattle.qc_pair.specs.declared.fold.Fold.{Fold}
+
+module _ {D : Type 0} {g : Ghosts D} (fold : Fold D g) where
+  -- the journal
+  abbrev pub other_in : Journal D g
+  other_in = fold.other
+
+  -- the number of the active journal's base, 0 where it has none
+  abbrev pub active_number : ℕ
+  active_number = fold.number
+
+  -- whether the spare is active
+  abbrev pub swapped_in : Bool
+  swapped_in = fold.is_swapped
+
+  -- the body that says how the disk was made
+  abbrev pub made_in : List ℕ
+  made_in = fold.made.items
+
+  -- the epoch of the run
+  abbrev pub epoch_in : ℕ
+  epoch_in = fold.epoch
+
+  -- of how many copies the store is
+  abbrev pub copies_in : ℕ
+  copies_in = fold.copies
+
+  -- the body of the next base, with these tuples
+  abbrev pub folded_base : List Tuple → List ℕ
+  folded_base tuples = (body.base (format_1 fold.copies) (length tuples)).spell (record { number = fold.number + 1; epoch = fold.epoch; tuples = tuples })
+
+  -- what stands after a fold
+  abbrev pub folded_bodies : List Tuple → List (List ℕ)
+  folded_bodies tuples = made_in ∷ folded_base tuples ∷ []
+
+  -- A fold has no room at this place: there is no next number, or a body would pass the limit.
+  abbrev pub IsFullFor : List Tuple → ℕ → Type 0
+  IsFullFor tuples place = ((place ≡ 0) × (2 ^ 63 ≤ fold.number))
+      ⊎ ((fold.number < 2 ^ 63) × IsFullFold (limit_of fold.other) made_in (folded_base tuples) place)
+
+  -- It may be called: its journal is up, of this limit, and it writes this made record and this epoch for so many copies.
+  pub record IsFoldFor (limit : ℕ) (made : List ℕ) (epoch copies : ℕ) : Type 0 where
+    pub up : IsUp fold.other
+    pub limit_is : limit_of fold.other ≡ limit
+    pub made_is : made_in ≡ made
+    pub epoch_is : fold.epoch ≡ epoch
+    pub copies_are : fold.copies ≡ copies
+
+-- A call leaves all but what the journal has.
+pub record IsSameFold {D : Type 0} {g : Ghosts D} (old new : Fold D g) : Type 0 where
+  pub number : active_number new ≡ active_number old
+  pub swapped : swapped_in new ≡ swapped_in old
+  pub made : made_in new ≡ made_in old
+  pub epoch : epoch_in new ≡ epoch_in old
+  pub copies : copies_in new ≡ copies_in old
+  pub limit : limit_of (other_in new) ≡ limit_of (other_in old)
