@@ -53,7 +53,3 @@ made_spelled made = refl
 pub base_behind : (form : Table → Form BaseRecord) (made : Made) (second : List ℕ) (bodies : List (List ℕ)) → body.made.fits made → base_in form (body.made.spell made ∷ second ∷ bodies) ≡ all_of (form made.table) second
 base_behind form made second bodies fits =
     ap (option_and_then (λ (m : Made). all_of (form m.table) second)) (all_again body.made exact_made made fits)
-
--- with more behind it
-pub base_stays : (form : Table → Form BaseRecord) (first second : List ℕ) (bodies more : List (List ℕ)) → base_in form (first ∷ second ∷ bodies) ≡ base_in form (first ∷ second ∷ more)
-base_stays form first second bodies more = refl

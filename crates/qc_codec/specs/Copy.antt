@@ -26,11 +26,11 @@ IsLater epoch (number ∷ n) = epoch < epoch_in number
 abbrev pub MayFollow : Table → Past → ℕ → List Grant → Grant → Type 0
 MayFollow table past base before g = (g.rec < length table.records) × IsOld (past.epoch + 1) g.access × IsLater base g.access × All (λ (other : Grant). other.access ≢ g.access) before
 
--- a made record tells that it is of this copy's disk
+-- a made record tells that it is of the disk of this number
 abbrev pub IsMadeOf : ℕ → Made → Type 0
-IsMadeOf copy made = made.who ≡ copy + 1
+IsMadeOf disk made = made.who ≡ disk
 
-module _ (copy : ℕ) (table : Table) (past : Past) where
+module _ (disk : ℕ) (table : Table) (past : Past) where
   -- a body is a grant that may stand behind these
   abbrev pub IsNextBody : List (List ℕ) → List ℕ → Type 0
   IsNextBody bodies bytes = MatchOption (all_of (grant_form table) bytes) ⊥ (MayFollow table past (epoch_of_base (base_in copy_base bodies)) (readings (grant_form table) bodies))
@@ -38,7 +38,7 @@ module _ (copy : ℕ) (table : Table) (past : Past) where
   -- a body may stand behind others: the first tells how the disk was made, the second may be a base of no later epoch than the
   -- ledger's last, and each further one is a grant
   abbrev pub MayStand : List (List ℕ) → List ℕ → Type 0
-  MayStand [] bytes = MatchOption (all_of body.made bytes) ⊥ (IsMadeOf copy)
+  MayStand [] bytes = MatchOption (all_of body.made bytes) ⊥ (IsMadeOf disk)
   MayStand (first ∷ []) bytes = MatchOption (base_in copy_base (first ∷ bytes ∷ [])) ⊥ (λ base. base.epoch ≤ past.epoch) ⊎ IsNextBody (first ∷ []) bytes
   MayStand (first ∷ second ∷ bodies) bytes = IsNextBody (first ∷ second ∷ bodies) bytes
 

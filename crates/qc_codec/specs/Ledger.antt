@@ -73,25 +73,26 @@ MayFollow past (ledger_record.Epoch epoch) = epoch ≡ past.epoch + 1
 MayFollow past (ledger_record.Top (number ∷ []) aborted) = (epoch_in number ≡ past.epoch) × (past.base ≢ Some past.epoch) × All (λ (l : Logged). l.top ≢ number ∷ []) past.tops
 MayFollow past (ledger_record.Top _ aborted) = ⊥
 
--- a record says that disk 0 was made with it
-abbrev pub IsMade : LedgerRecord → Type 0
-IsMade (ledger_record.Made made) = made.who ≡ 0
-IsMade _ = ⊥
+-- a record says that the disk of a number was made with it
+abbrev pub IsMade : ℕ → LedgerRecord → Type 0
+IsMade disk (ledger_record.Made made) = made.who ≡ disk
+IsMade disk _ = ⊥
 
 -- a body is a record that may stand behind what these tell
 abbrev pub IsNextBody : List (List ℕ) → List ℕ → Type 0
 IsNextBody bodies bytes = MatchOption (all_of body.ledger bytes) ⊥ (MayFollow (past_in bodies))
 
--- a body may stand behind others: the first tells how the disk was made, and the second may be a base
-abbrev pub MayStand : List (List ℕ) → List ℕ → Type 0
-MayStand [] bytes = MatchOption (all_of body.ledger bytes) ⊥ IsMade
-MayStand (first ∷ []) bytes = (is_some (base_in ledger_base (first ∷ bytes ∷ [])) ≡ true) ⊎ IsNextBody (first ∷ []) bytes
-MayStand (first ∷ second ∷ bodies) bytes = IsNextBody (first ∷ second ∷ bodies) bytes
+module _ (disk : ℕ) where
+  -- a body may stand behind others: the first tells how the disk was made, and the second may be a base
+  abbrev pub MayStand : List (List ℕ) → List ℕ → Type 0
+  MayStand [] bytes = MatchOption (all_of body.ledger bytes) ⊥ (IsMade disk)
+  MayStand (first ∷ []) bytes = (is_some (base_in ledger_base (first ∷ bytes ∷ [])) ≡ true) ⊎ IsNextBody (first ∷ []) bytes
+  MayStand (first ∷ second ∷ bodies) bytes = IsNextBody (first ∷ second ∷ bodies) bytes
 
--- each body may stand behind those before it
-abbrev pub AreInOrder : List (List ℕ) → Type 0
-AreInOrder bodies = EachMay MayStand bodies
+  -- each body may stand behind those before it
+  abbrev pub AreInOrder : List (List ℕ) → Type 0
+  AreInOrder bodies = EachMay MayStand bodies
 
--- The first body that may not stand behind those before it has this index.
-abbrev pub IsOutOfOrder : ℕ → List (List ℕ) → Type 0
-IsOutOfOrder index bodies = FirstMayNot MayStand index bodies
+  -- The first body that may not stand behind those before it has this index.
+  abbrev pub IsOutOfOrder : ℕ → List (List ℕ) → Type 0
+  IsOutOfOrder index bodies = FirstMayNot MayStand index bodies

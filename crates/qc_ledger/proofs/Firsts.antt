@@ -37,21 +37,13 @@ use Rattle.qc_ledger.proofs.Told.{base_front, base_no_record, base_read, by_stan
 
 -- HOW THE LEDGER WAS MADE
 
-pub made_whole : (m : Made) → m.who ≡ 0 → made_for 0 m.table ≡ m
-made_whole m is = ap (λ n. made_for n m.table) (sym is)
-
 -- a made record is read from its body
-pub made_again : (m : Made) → body.made.fits m → m.who ≡ 0 → all_of body.ledger (made_body m.table) ≡ Some (ledger_record.Made m)
-made_again m fits is =
-    ap (λ (x : Made). all_of body.ledger (body.ledger.spell (ledger_record.Made x))) (made_whole m is)
-    ∙ all_again body.ledger exact_ledger (ledger_record.Made m) (made_fits_ledger m fits)
+pub made_again : (m : Made) → body.made.fits m → all_of body.ledger (made_body m.who m.table) ≡ Some (ledger_record.Made m)
+made_again m fits = all_again body.ledger exact_ledger (ledger_record.Made m) (made_fits_ledger m fits)
 
 -- and as one of a disk
-pub made_alone : (m : Made) → body.made.fits m → m.who ≡ 0 → all_of body.made (made_body m.table) ≡ Some m
-made_alone m fits is =
-    ap (λ (x : Made). all_of body.made (body.ledger.spell (ledger_record.Made x))) (made_whole m is)
-    ∙ ap (all_of body.made) (made_spelled m)
-    ∙ all_again body.made exact_made m fits
+pub made_alone : (m : Made) → body.made.fits m → all_of body.made (made_body m.who m.table) ≡ Some m
+made_alone m fits = ap (all_of body.made) (made_spelled m) ∙ all_again body.made exact_made m fits
 
 pub made_sized : (m : Made) → body.made.fits m → IsSized m.table
 unfolding body.made
@@ -59,27 +51,28 @@ made_sized m fits = making_sized m fits
 
 -- FAULTS
 
-pub bytes_also : (P Q : ImageFault → Type 0) → ((f : ImageFault) → P f → Q f) → (fault : LedgerNo) → IsOfBytes P fault → IsOfBytes Q fault
-bytes_also P Q also Disk is = is
-bytes_also P Q also (Image bad) is = (is.0, also bad.fault is.1)
-bytes_also P Q also (ledger_no.Full place) is = is
-bytes_also P Q also (Short Memory) is = tt
-bytes_also P Q also (Short Room) is = is
+module _ (disk : ℕ) where
+  pub bytes_also : (P Q : ImageFault → Type 0) → ((f : ImageFault) → P f → Q f) → (fault : LedgerNo) → IsOfBytes disk P fault → IsOfBytes disk Q fault
+  bytes_also P Q also Disk is = is
+  bytes_also P Q also (Image bad) is = (is.0, also bad.fault is.1)
+  bytes_also P Q also (ledger_no.Full place) is = is
+  bytes_also P Q also (Short Memory) is = tt
+  bytes_also P Q also (Short Room) is = is
 
--- what is handed on
-pub handed_on : {T : Type 0} (r : Result T LedgerNo) (fault : LedgerNo) (P Q : ImageFault → Type 0) → ((f : ImageFault) → P f → Q f) → IsErrAnd r (λ e. e ≡ fault) → IsOfBytes P fault → IfErr r (IsOfBytes Q)
-handed_on (Ok x) fault P Q also same is = tt
-handed_on (Err e) fault P Q also same is = subst (IsOfBytes Q) (sym same) (bytes_also P Q also fault is)
+  -- what is handed on
+  pub handed_on : {T : Type 0} (r : Result T LedgerNo) (fault : LedgerNo) (P Q : ImageFault → Type 0) → ((f : ImageFault) → P f → Q f) → IsErrAnd r (λ e. e ≡ fault) → IsOfBytes disk P fault → IfErr r (IsOfBytes disk Q)
+  handed_on (Ok x) fault P Q also same is = tt
+  handed_on (Err e) fault P Q also same is = subst (IsOfBytes disk Q) (sym same) (bytes_also P Q also fault is)
 
-pub first_fault : (table : Table) (limit : ℕ) (first : List ℕ) (bodies rest : List (List ℕ)) → bodies ≡ first ∷ rest → (f : ImageFault) → IsFirstBad table first f → IsLedgerFault table limit bodies f
-first_fault table limit first bodies rest is (Broken place) bad = bad
-first_fault table limit first bodies rest is (Grammar index) bad = (
-  record { before = []; after = rest; item = first; split = is; size = bad.0; order = each_none MayStand; breaks = bad.1 },
-  λ other. absurd (other bad.0),
-)
-first_fault table limit first bodies rest is (Full place) bad = absurd bad
-first_fault table limit first bodies rest is (OtherTable kept asked) bad = (bad.0, bad.1, (λ none. let two : first ∷ rest ≡ [] = sym is ∙ none in absurd cc), subst (AreMadeFor kept) (sym is) bad.2)
-first_fault table limit first bodies rest is (Epoch epoch) bad = absurd bad
+  pub first_fault : (table : Table) (limit : ℕ) (first : List ℕ) (bodies rest : List (List ℕ)) → bodies ≡ first ∷ rest → (f : ImageFault) → IsFirstBad disk table first f → IsLedgerFault disk table limit bodies f
+  first_fault table limit first bodies rest is (Broken place) bad = bad
+  first_fault table limit first bodies rest is (Grammar index) bad = (
+    record { before = []; after = rest; item = first; split = is; size = bad.0; order = each_none (MayStand disk); breaks = bad.1 },
+    λ other. absurd (other bad.0),
+  )
+  first_fault table limit first bodies rest is (Full place) bad = absurd bad
+  first_fault table limit first bodies rest is (OtherTable kept asked) bad = (bad.0, bad.1, (λ none. let two : first ∷ rest ≡ [] = sym is ∙ none in absurd cc), subst (AreMadeFor disk kept) (sym is) bad.2)
+  first_fault table limit first bodies rest is (Epoch epoch) bad = absurd bad
 
 -- BODIES ONE BY ONE
 
@@ -104,8 +97,8 @@ module _ (bodies : List (Vec ℕ Global)) where
     base_same some base = sym (base_front (bodies_of (take i bodies)) (bodies_of (drop (i + 1) bodies)) v.items (omega (arith, some, so_many))) ∙ ap (base_in ledger_base) (sym parted) ∙ sym base
 
     -- a body that may not stand behind those before it is the first fault
-    pub later_bad : 1 ≤ i → base_in ledger_base (bodies_of (take i bodies)) ≡ base_in ledger_base (bodies_of bodies) → AreInOrder (bodies_of (take i bodies)) → (IsNextBody (bodies_of (take i bodies)) v.items → ⊥) → IsLaterBad (bodies_of bodies) (Grammar i)
-    later_bad some base order never = (
+    pub later_bad : (disk : ℕ) → 1 ≤ i → base_in ledger_base (bodies_of (take i bodies)) ≡ base_in ledger_base (bodies_of bodies) → AreInOrder disk (bodies_of (take i bodies)) → (IsNextBody (bodies_of (take i bodies)) v.items → ⊥) → IsLaterBad disk (bodies_of bodies) (Grammar i)
+    later_bad disk some base order never = (
       (λ none. omega (arith, some, none)),
       record {
         before = bodies_of (take i bodies);
@@ -114,42 +107,42 @@ module _ (bodies : List (Vec ℕ Global)) where
         split = parted;
         size = so_many;
         order = order;
-        breaks = λ may. never (by_stands (bodies_of (take i bodies)) v.items (omega (arith, some, so_many)) (base_same some base) may);
+        breaks = λ may. never (by_stands disk (bodies_of (take i bodies)) v.items (omega (arith, some, so_many)) (base_same some base) may);
       },
     )
 
     -- a body that may stand behind those before it
-    pub keeps_on : (past : Past) (bytes : List ℕ) → 1 ≤ i → bytes ≡ v.items → base_in ledger_base (bodies_of (take i bodies)) ≡ base_in ledger_base (bodies_of bodies) → past ≡ past_in (bodies_of (take i bodies)) → AreInOrder (bodies_of (take i bodies))
+    pub keeps_on : (disk : ℕ) (past : Past) (bytes : List ℕ) → 1 ≤ i → bytes ≡ v.items → base_in ledger_base (bodies_of (take i bodies)) ≡ base_in ledger_base (bodies_of bodies) → past ≡ past_in (bodies_of (take i bodies)) → AreInOrder disk (bodies_of (take i bodies))
         → MatchOption (all_of body.ledger bytes) ⊥ (MayFollow past)
-        → (with_body past (all_of body.ledger bytes) ≡ past_in (bodies_of (take (i + 1) bodies))) × AreInOrder (bodies_of (take (i + 1) bodies)) × (base_in ledger_base (bodies_of (take (i + 1) bodies)) ≡ base_in ledger_base (bodies_of bodies))
-    keeps_on past bytes some same base told order may =
+        → (with_body past (all_of body.ledger bytes) ≡ past_in (bodies_of (take (i + 1) bodies))) × AreInOrder disk (bodies_of (take (i + 1) bodies)) × (base_in ledger_base (bodies_of (take (i + 1) bodies)) ≡ base_in ledger_base (bodies_of bodies))
+    keeps_on disk past bytes some same base told order may =
         let so_far = bodies_of (take i bodies) in
         let one = sym one_more in
-        let stands = stands_by so_far bytes (omega (arith, some, so_many)) (subst (λ p. MatchOption (all_of body.ledger bytes) ⊥ (MayFollow p)) told may) in
+        let stands = stands_by disk so_far bytes (omega (arith, some, so_many)) (subst (λ p. MatchOption (all_of body.ledger bytes) ⊥ (MayFollow p)) told may) in
         let all : so_far ++ bytes ∷ [] ≡ bodies_of (take (i + 1) bodies) = ap (λ (b : List ℕ). so_far ++ b ∷ []) same ∙ one in
         let still : base_in ledger_base (so_far ++ bytes ∷ []) ≡ base_in ledger_base so_far = ap (λ (b : List ℕ). base_in ledger_base (so_far ++ b ∷ [])) same ∙ base_same some base in (
           ap (λ p. with_body p (all_of body.ledger bytes)) told ∙ sym (past_push so_far bytes still) ∙ ap past_in all,
-          subst AreInOrder all (each_push MayStand so_far bytes order stands),
+          subst (AreInOrder disk) all (each_push (MayStand disk) so_far bytes order stands),
           ap (base_in ledger_base) (sym all) ∙ still ∙ base,
         )
 
 -- THE FIRST BODIES
 
-made_tells : (o : Option LedgerRecord) → MatchOption o ⊥ IsMade → with_body (past_in []) o ≡ past_in []
-made_tells None made = absurd made
-made_tells (Some (ledger_record.Made m)) made = refl
-made_tells (Some (ledger_record.Epoch epoch)) made = absurd made
-made_tells (Some (ledger_record.Top top aborted)) made = absurd made
+made_tells : (disk : ℕ) (o : Option LedgerRecord) → MatchOption o ⊥ (IsMade disk) → with_body (past_in []) o ≡ past_in []
+made_tells disk None made = absurd made
+made_tells disk (Some (ledger_record.Made m)) made = refl
+made_tells disk (Some (ledger_record.Epoch epoch)) made = absurd made
+made_tells disk (Some (ledger_record.Top top aborted)) made = absurd made
 
-begun : (bodies : List (Vec ℕ Global)) → 0 < length bodies → MayStand [] (slice_index_or (bodies_of bodies) 0 []) → (past_in (bodies_of (take 1 bodies)) ≡ past_in []) × AreInOrder (bodies_of (take 1 bodies))
-begun [] some may = absurd (omega (arith, some))
-begun (v ∷ bodies) some may = (past_push [] v.items refl ∙ made_tells (all_of body.ledger v.items) may, each_push MayStand [] v.items (each_none MayStand) may)
+begun : (disk : ℕ) (bodies : List (Vec ℕ Global)) → 0 < length bodies → MayStand disk [] (slice_index_or (bodies_of bodies) 0 []) → (past_in (bodies_of (take 1 bodies)) ≡ past_in []) × AreInOrder disk (bodies_of (take 1 bodies))
+begun disk [] some may = absurd (omega (arith, some))
+begun disk (v ∷ bodies) some may = (past_push [] v.items refl ∙ made_tells disk (all_of body.ledger v.items) may, each_push (MayStand disk) [] v.items (each_none (MayStand disk)) may)
 
 -- the first body was read, and no base stands behind it
-one_read : (bodies : List (Vec ℕ Global)) (seen : Seen) → 0 < length bodies → MayStand [] (slice_index_or (bodies_of bodies) 0 []) → base_in ledger_base (bodies_of bodies) ≡ None → told_by seen ≡ past_in [] → HasNumbers seen → AreRead bodies seen 1
-one_read [] seen some may none told numbers = absurd (omega (arith, some))
-one_read (v ∷ bodies) seen some may none told numbers =
-    let b = begun (v ∷ bodies) some may in
+one_read : (disk : ℕ) (bodies : List (Vec ℕ Global)) (seen : Seen) → 0 < length bodies → MayStand disk [] (slice_index_or (bodies_of bodies) 0 []) → base_in ledger_base (bodies_of bodies) ≡ None → told_by seen ≡ past_in [] → HasNumbers seen → AreRead disk bodies seen 1
+one_read disk [] seen some may none told numbers = absurd (omega (arith, some))
+one_read disk (v ∷ bodies) seen some may none told numbers =
+    let b = begun disk (v ∷ bodies) some may in
     record { some = omega arith; within = omega (arith, some); told = told ∙ sym b.0; order = b.1; base = sym none; numbers = numbers }
 
 pub above_one : (n : ℕ) → 0 < n → n ≢ 1 → 1 < n
@@ -158,12 +151,12 @@ above_one (suc zero) some other = absurd (other refl)
 above_one (suc (suc n)) some other = omega arith
 
 -- there is no other
-pub alone_read : (bodies : List (Vec ℕ Global)) (seen : Seen) → length bodies ≡ 1 → MayStand [] (slice_index_or (bodies_of bodies) 0 []) → told_by seen ≡ past_in [] → HasNumbers seen → AreRead bodies seen 1
-alone_read [] seen one may told numbers = absurd (omega (arith, one))
-alone_read (v ∷ []) seen one may told numbers = one_read (v ∷ []) seen (omega arith) may refl told numbers
-alone_read (v ∷ w ∷ bodies) seen one may told numbers = absurd (omega (arith, one))
+pub alone_read : (disk : ℕ) (bodies : List (Vec ℕ Global)) (seen : Seen) → length bodies ≡ 1 → MayStand disk [] (slice_index_or (bodies_of bodies) 0 []) → told_by seen ≡ past_in [] → HasNumbers seen → AreRead disk bodies seen 1
+alone_read disk [] seen one may told numbers = absurd (omega (arith, one))
+alone_read disk (v ∷ []) seen one may told numbers = one_read disk (v ∷ []) seen (omega arith) may refl told numbers
+alone_read disk (v ∷ w ∷ bodies) seen one may told numbers = absurd (omega (arith, one))
 
-module _ (copies : ℕ) (v : Vec ℕ Global) (bytes : List ℕ) (same : bytes ≡ v.items) (seen : Seen) where
+module _ (disk copies : ℕ) (v : Vec ℕ Global) (bytes : List ℕ) (same : bytes ≡ v.items) (seen : Seen) where
   -- what the second is as a base
   abbrev as_base : Option BaseRecord
   as_base = all_of (body.base (format_1 copies) 0) bytes
@@ -172,13 +165,13 @@ module _ (copies : ℕ) (v : Vec ℕ Global) (bytes : List ℕ) (same : bytes �
   second_is f s bodies is over = base_read copies f.items s.items bodies over ∙ ap (all_of (body.base (format_1 copies) 0)) (ap (λ (w : Vec ℕ Global). w.items) (sym is) ∙ sym same)
 
   -- it is one
-  pub two_read : (bodies : List (Vec ℕ Global)) → 1 < length bodies → v ≡ get_or bodies 1 v → MayStand [] (slice_index_or (bodies_of bodies) 0 []) → IsMadeOver copies (slice_index_or (bodies_of bodies) 0 [])
-      → is_some as_base ≡ true → told_by seen ≡ with_base (past_in []) as_base → HasNumbers seen → AreRead bodies seen 2
+  pub two_read : (bodies : List (Vec ℕ Global)) → 1 < length bodies → v ≡ get_or bodies 1 v → MayStand disk [] (slice_index_or (bodies_of bodies) 0 []) → IsMadeOver copies (slice_index_or (bodies_of bodies) 0 [])
+      → is_some as_base ≡ true → told_by seen ≡ with_base (past_in []) as_base → HasNumbers seen → AreRead disk bodies seen 2
   two_read [] within is may over took told numbers = absurd (omega (arith, within))
   two_read (f ∷ []) within is may over took told numbers = absurd (omega (arith, within))
   two_read (f ∷ s ∷ bodies) within is may over took told numbers = by as_base refl took
     where
-      by : (o : Option BaseRecord) → as_base ≡ o → is_some o ≡ true → AreRead (f ∷ s ∷ bodies) seen 2
+      by : (o : Option BaseRecord) → as_base ≡ o → is_some o ≡ true → AreRead disk (f ∷ s ∷ bodies) seen 2
       by None reads none = absurd (true≢false (sym none))
       by (Some b) reads one =
           let behind : base_in ledger_base (f.items ∷ s.items ∷ []) ≡ Some b = second_is f s [] is over ∙ reads in
@@ -186,41 +179,42 @@ module _ (copies : ℕ) (v : Vec ℕ Global) (bytes : List ℕ) (same : bytes �
           record {
             some = omega arith;
             within = omega (arith, within);
-            told = told ∙ ap (with_base (past_in [])) reads ∙ sym (past_base f.items s.items b behind none may);
-            order = each_push MayStand (f.items ∷ []) s.items (begun (f ∷ s ∷ bodies) (omega arith) may).1 (inl (ap (λ (o : Option BaseRecord). is_some o) behind));
+            told = told ∙ ap (with_base (past_in [])) reads ∙ sym (past_base disk f.items s.items b behind none may);
+            order = each_push (MayStand disk) (f.items ∷ []) s.items (begun disk (f ∷ s ∷ bodies) (omega arith) may).1 (inl (ap (λ (o : Option BaseRecord). is_some o) behind));
             base = refl;
             numbers = numbers;
           }
 
   -- it is none
-  pub no_base_read : (bodies : List (Vec ℕ Global)) → 1 < length bodies → v ≡ get_or bodies 1 v → MayStand [] (slice_index_or (bodies_of bodies) 0 []) → IsMadeOver copies (slice_index_or (bodies_of bodies) 0 [])
-      → is_some as_base ≡ false → told_by seen ≡ with_base (past_in []) as_base → HasNumbers seen → AreRead bodies seen 1
+  pub no_base_read : (bodies : List (Vec ℕ Global)) → 1 < length bodies → v ≡ get_or bodies 1 v → MayStand disk [] (slice_index_or (bodies_of bodies) 0 []) → IsMadeOver copies (slice_index_or (bodies_of bodies) 0 [])
+      → is_some as_base ≡ false → told_by seen ≡ with_base (past_in []) as_base → HasNumbers seen → AreRead disk bodies seen 1
   no_base_read [] within is may over took told numbers = absurd (omega (arith, within))
   no_base_read (f ∷ []) within is may over took told numbers = absurd (omega (arith, within))
   no_base_read (f ∷ s ∷ bodies) within is may over took told numbers = by as_base refl took
     where
-      by : (o : Option BaseRecord) → as_base ≡ o → is_some o ≡ false → AreRead (f ∷ s ∷ bodies) seen 1
-      by None reads none = one_read (f ∷ s ∷ bodies) seen (omega arith) may (second_is f s (bodies_of bodies) is over ∙ reads) (told ∙ ap (with_base (past_in [])) reads) numbers
+      by : (o : Option BaseRecord) → as_base ≡ o → is_some o ≡ false → AreRead disk (f ∷ s ∷ bodies) seen 1
+      by None reads none = one_read disk (f ∷ s ∷ bodies) seen (omega arith) may (second_is f s (bodies_of bodies) is over ∙ reads) (told ∙ ap (with_base (past_in [])) reads) numbers
       by (Some b) reads none = absurd (true≢false none)
 
 -- A FAULT OF BYTES IS HANDED ON BY A MOUNTING
 
-image_of_bytes : (P Q : ImageFault → Type 0) → ((f : ImageFault) → P f → Q f) → (fault : LedgerNo) → IsOfBytes P fault → IsOfLedgerImage Q fault
-image_of_bytes P Q also Disk is = tt
-image_of_bytes P Q also (Image bad) is = (is.0, also bad.fault is.1)
-image_of_bytes P Q also (ledger_no.Full place) is = is
-image_of_bytes P Q also (Short Memory) is = tt
-image_of_bytes P Q also (Short Room) is = is
+module _ (disk : ℕ) where
+  image_of_bytes : (P Q : ImageFault → Type 0) → ((f : ImageFault) → P f → Q f) → (fault : LedgerNo) → IsOfBytes disk P fault → IsOfLedgerImage disk Q fault
+  image_of_bytes P Q also Disk is = tt
+  image_of_bytes P Q also (Image bad) is = (is.0, also bad.fault is.1)
+  image_of_bytes P Q also (ledger_no.Full place) is = is
+  image_of_bytes P Q also (Short Memory) is = tt
+  image_of_bytes P Q also (Short Room) is = is
 
-pub passed_on : {T : Type 0} (r : Result T LedgerNo) (fault : LedgerNo) (P Q : ImageFault → Type 0) → ((f : ImageFault) → P f → Q f) → IsErrAnd r (λ e. e ≡ fault) → IsOfBytes P fault → IfErr r (IsOfLedgerImage Q)
-passed_on (Ok x) fault P Q also same is = tt
-passed_on (Err e) fault P Q also same is = subst (IsOfLedgerImage Q) (sym same) (image_of_bytes P Q also fault is)
+  pub passed_on : {T : Type 0} (r : Result T LedgerNo) (fault : LedgerNo) (P Q : ImageFault → Type 0) → ((f : ImageFault) → P f → Q f) → IsErrAnd r (λ e. e ≡ fault) → IsOfBytes disk P fault → IfErr r (IsOfLedgerImage disk Q)
+  passed_on (Ok x) fault P Q also same is = tt
+  passed_on (Err e) fault P Q also same is = subst (IsOfLedgerImage disk Q) (sym same) (image_of_bytes P Q also fault is)
 
-pub no_disk : {T : Type 0} (r : Result T LedgerNo) (fault : LedgerNo) (P : ImageFault → Type 0) → IsErrAnd r (λ e. e ≡ fault) → IsOfBytes P fault → IsErrOf r Disk → ⊥
-no_disk (Ok x) fault P same is of = absurd cc
-no_disk (Err e) fault P same is of = let one : e ≡ Disk = cc in subst (IsOfBytes P) (sym same ∙ one) is
+  pub no_disk : {T : Type 0} (r : Result T LedgerNo) (fault : LedgerNo) (P : ImageFault → Type 0) → IsErrAnd r (λ e. e ≡ fault) → IsOfBytes disk P fault → IsErrOf r Disk → ⊥
+  no_disk (Ok x) fault P same is of = absurd cc
+  no_disk (Err e) fault P same is of = let one : e ≡ Disk = cc in subst (IsOfBytes disk P) (sym same ∙ one) is
 
 -- a proper table has a made record
-pub made_proper : (table : Table) → (body.table 1).fits table → body.made.fits (made_for 0 table)
+pub made_proper : (disk : ℕ) (table : Table) → disk < 256 → (body.table 1).fits table → body.made.fits (made_for disk table)
 unfolding body.made body.making
-made_proper table fits = ((omega arith, fits), tt)
+made_proper disk table small fits = ((small, fits), tt)

@@ -3,6 +3,7 @@ pub mod Numbers
 pub mod Firsts
 pub mod Writing
 pub mod Mounts
+pub mod Halves
 pub mod Logging
 pub mod Verdicts
 pub mod Passes

@@ -19,13 +19,13 @@ use Rattle.qc_ledger.specs.declared.fault.LedgerNo.TheVariants as ledger_no
 use Rattle.qc_ledger.proofs.Writing.{some_of_none}
 
 -- the journal's fault is the image's first
-pub mount_refusal : (table : Table) (limit : ℕ) (told : Option (List ℕ)) (fault : Fault) → IsOfReading fault → ((place : ℕ) → fault ≡ Broken place → IfSome told (IsBroken place)) → IsLedgerRefusal table limit told (ledger_mount_no fault)
+pub mount_refusal : (table : Table) (limit : ℕ) (told : Option (List ℕ)) (fault : Fault) → IsOfReading fault → ((place : ℕ) → fault ≡ Broken place → IfSome told (IsBroken place)) → IsLedgerRefusal table limit told (ledger_mount_no 0 fault)
 mount_refusal table limit told Disk of broken = tt
 mount_refusal table limit told (Broken place) of broken = (refl, broken place refl)
 mount_refusal table limit told (Full place) of broken = absurd of
 mount_refusal table limit told Memory of broken = tt
 
-image_also : (P Q : ImageFault → Type 0) → ((f : ImageFault) → P f → Q f) → (fault : LedgerNo) → IsOfLedgerImage P fault → IsOfLedgerImage Q fault
+image_also : (P Q : ImageFault → Type 0) → ((f : ImageFault) → P f → Q f) → (fault : LedgerNo) → IsOfLedgerImage 0 P fault → IsOfLedgerImage 0 Q fault
 image_also P Q also ledger_no.Disk is = tt
 image_also P Q also (ledger_no.Image bad) is = (is.0, also bad.fault is.1)
 image_also P Q also (ledger_no.Full place) is = is
@@ -47,10 +47,10 @@ module _ (Has : List (List ℕ) → ImageFault → Type 0) (bodies : List (List 
 
 -- a fault of the bodies is the image's first
 pub begin_refusal : (K : Type 0) (told : Option (List ℕ)) (table : Table) (limit kept : ℕ) (bodies : List (List ℕ)) → kept ≡ limit → IfSome told (HasRecords bodies) → (IsSome told → K) → (fault : LedgerNo)
-    → IsOfLedgerImage (λ f. K → IsLedgerFault table kept bodies f) fault → IsLedgerRefusal table limit told fault
+    → IsOfLedgerImage 0 (λ f. K → IsLedgerFault 0 table kept bodies f) fault → IsLedgerRefusal table limit told fault
 begin_refusal K told table limit kept bodies same has keeps refused is =
-    image_also (λ f. K → IsLedgerFault table kept bodies f) (λ f. IfSome told (IsFirstFault (IsLedgerFault table limit) f))
-    (λ f at. first_told (IsLedgerFault table limit) bodies (λ place broken. broken) told f has (λ some. subst (λ n. IsLedgerFault table n bodies f) same (at (keeps some)))) refused is
+    image_also (λ f. K → IsLedgerFault 0 table kept bodies f) (λ f. IfSome told (IsFirstFault (IsLedgerFault 0 table limit) f))
+    (λ f at. first_told (IsLedgerFault 0 table limit) bodies (λ place broken. broken) told f has (λ some. subst (λ n. IsLedgerFault 0 table n bodies f) same (at (keeps some)))) refused is
 
 -- what the bytes have, and what holds where they are told
 pub fine_told : (Fine : Type 0) (told : Option (List ℕ)) (found : List (List ℕ)) → IfSome told (HasRecords found) → (IsSome told → Fine) → IfSome told (λ bytes. HasRecords found bytes × Fine)

@@ -68,16 +68,17 @@ base_front (first ∷ []) rest bytes some = refl
 base_front (first ∷ second ∷ bodies) rest bytes some = refl
 
 -- behind some bodies, the rule is that of the past that they tell
-pub stands_by : (bodies : List (List ℕ)) (bytes : List ℕ) → 0 < length bodies → IsNextBody bodies bytes → MayStand bodies bytes
-stands_by [] bytes some may = absurd (omega (arith, some))
-stands_by (first ∷ []) bytes some may = inr may
-stands_by (first ∷ second ∷ bodies) bytes some may = may
+module _ (disk : ℕ) where
+  pub stands_by : (bodies : List (List ℕ)) (bytes : List ℕ) → 0 < length bodies → IsNextBody bodies bytes → MayStand disk bodies bytes
+  stands_by [] bytes some may = absurd (omega (arith, some))
+  stands_by (first ∷ []) bytes some may = inr may
+  stands_by (first ∷ second ∷ bodies) bytes some may = may
 
-pub by_stands : (bodies : List (List ℕ)) (bytes : List ℕ) → 0 < length bodies → base_in ledger_base (bodies ++ bytes ∷ []) ≡ base_in ledger_base bodies → MayStand bodies bytes → IsNextBody bodies bytes
-by_stands [] bytes some same may = absurd (omega (arith, some))
-by_stands (first ∷ []) bytes some same (inl is) = absurd (true≢false (sym is ∙ ap (λ (o : Option BaseRecord). is_some o) same))
-by_stands (first ∷ []) bytes some same (inr may) = may
-by_stands (first ∷ second ∷ bodies) bytes some same may = may
+  pub by_stands : (bodies : List (List ℕ)) (bytes : List ℕ) → 0 < length bodies → base_in ledger_base (bodies ++ bytes ∷ []) ≡ base_in ledger_base bodies → MayStand disk bodies bytes → IsNextBody bodies bytes
+  by_stands [] bytes some same may = absurd (omega (arith, some))
+  by_stands (first ∷ []) bytes some same (inl is) = absurd (true≢false (sym is ∙ ap (λ (o : Option BaseRecord). is_some o) same))
+  by_stands (first ∷ []) bytes some same (inr may) = may
+  by_stands (first ∷ second ∷ bodies) bytes some same may = may
 
 -- A BASE
 
@@ -104,13 +105,13 @@ base_read copies first second bodies over = by (all_of body.made first) over
     by (Some made) of = ap (λ (n : ℕ). all_of (body.base (format_1 n) 0) second) of
 
 -- what the first two tell where the second is a base
-pub past_base : (first second : List ℕ) (b : BaseRecord) → base_in ledger_base (first ∷ second ∷ []) ≡ Some b → all_of body.ledger second ≡ None → MatchOption (all_of body.ledger first) ⊥ IsMade → past_in (first ∷ second ∷ []) ≡ with_base (past_in []) (Some b)
-past_base first second b is none made =
+pub past_base : (disk : ℕ) (first second : List ℕ) (b : BaseRecord) → base_in ledger_base (first ∷ second ∷ []) ≡ Some b → all_of body.ledger second ≡ None → MatchOption (all_of body.ledger first) ⊥ (IsMade disk) → past_in (first ∷ second ∷ []) ≡ with_base (past_in []) (Some b)
+past_base disk first second b is none made =
     ap (λ (base : Option BaseRecord). tells base (readings body.ledger (first ∷ second ∷ []))) is
     ∙ ap (λ (o : Option LedgerRecord). tells (Some b) (cons_option (all_of body.ledger first) (cons_option o []))) none
     ∙ by (all_of body.ledger first) made
   where
-    by : (o : Option LedgerRecord) → MatchOption o ⊥ IsMade → tells (Some b) (cons_option o []) ≡ with_base (past_in []) (Some b)
+    by : (o : Option LedgerRecord) → MatchOption o ⊥ (IsMade disk) → tells (Some b) (cons_option o []) ≡ with_base (past_in []) (Some b)
     by None of = absurd of
     by (Some (Made m)) of = refl
     by (Some (Epoch epoch)) of = absurd of

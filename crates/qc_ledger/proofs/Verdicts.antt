@@ -18,23 +18,23 @@ use Rattle.qc_ledger.specs.Image.{AreMadeFor, AreMountableAsLedger, IsLedgerFaul
 
 -- HOW THE LEDGER WAS MADE
 
-same_table : (bodies : List (List ℕ)) (t k : Table) → bodies ≢ [] → AreMadeFor t bodies → AreMadeFor k bodies → k ≡ t
-same_table [] t k some one two = absurd (some refl)
-same_table (first ∷ bodies) t k some one two =
-    let both : Some (ledger_record.Made (made_for 0 k)) ≡ Some (ledger_record.Made (made_for 0 t)) = sym two ∙ one in
-    let made : made_for 0 k ≡ made_for 0 t = cc in
+same_table : (disk : ℕ) (bodies : List (List ℕ)) (t k : Table) → bodies ≢ [] → AreMadeFor disk t bodies → AreMadeFor disk k bodies → k ≡ t
+same_table disk [] t k some one two = absurd (some refl)
+same_table disk (first ∷ bodies) t k some one two =
+    let both : Some (ledger_record.Made (made_for disk k)) ≡ Some (ledger_record.Made (made_for disk t)) = sym two ∙ one in
+    let made : made_for disk k ≡ made_for disk t = cc in
     ap (λ (m : Made). m.table) made
 
-first_stands : (bodies : List (List ℕ)) (k : Table) (i : ℕ) → AreMadeFor k bodies → IsOutOfOrder i bodies → i ≡ 0 → ⊥
-first_stands bodies k i made out none = by bodies out.before out.after out.item made out.split (sym out.size ∙ none) out.breaks
+first_stands : (disk : ℕ) (bodies : List (List ℕ)) (k : Table) (i : ℕ) → AreMadeFor disk k bodies → IsOutOfOrder disk i bodies → i ≡ 0 → ⊥
+first_stands disk bodies k i made out none = by bodies out.before out.after out.item made out.split (sym out.size ∙ none) out.breaks
   where
-    by : (bs before after : List (List ℕ)) (bytes : List ℕ) → AreMadeFor k bs → bs ≡ before ++ bytes ∷ after → length before ≡ 0 → (MayStand before bytes → ⊥) → ⊥
+    by : (bs before after : List (List ℕ)) (bytes : List ℕ) → AreMadeFor disk k bs → bs ≡ before ++ bytes ∷ after → length before ≡ 0 → (MayStand disk before bytes → ⊥) → ⊥
     by [] [] after bytes m split size breaks = absurd cc
     by [] (b ∷ before) after bytes m split size breaks = absurd cc
-    by (f ∷ bs) [] after bytes m split size breaks = let same : f ≡ bytes = cc in breaks (stands bytes (subst (λ (x : List ℕ). all_of body.ledger x ≡ Some (ledger_record.Made (made_for 0 k))) same m))
+    by (f ∷ bs) [] after bytes m split size breaks = let same : f ≡ bytes = cc in breaks (stands bytes (subst (λ (x : List ℕ). all_of body.ledger x ≡ Some (ledger_record.Made (made_for disk k))) same m))
       where
-        stands : (x : List ℕ) → all_of body.ledger x ≡ Some (ledger_record.Made (made_for 0 k)) → MayStand [] x
-        stands x is = subst (λ o. MatchOption o ⊥ IsMade) (sym is) refl
+        stands : (x : List ℕ) → all_of body.ledger x ≡ Some (ledger_record.Made (made_for disk k)) → MayStand disk [] x
+        stands x is = subst (λ o. MatchOption o ⊥ (IsMade disk)) (sym is) refl
     by (f ∷ bs) (b ∷ before) after bytes m split size breaks = absurd (omega (arith, size))
 
 -- WANT OF ROOM
@@ -48,40 +48,40 @@ same_place limit bodies (next ∷ more) p q (inr one) (inr two) = same_place lim
 
 -- ONE VERDICT
 
-module _ (table : Table) (limit : ℕ) (bodies : List (List ℕ)) where
-  grammar_or_table : (i : ℕ) (kept : Table) → IsOutOfOrder i bodies → (i ≢ 0 → AreMadeFor table bodies) → kept ≢ table → bodies ≢ [] → AreMadeFor kept bodies → ⊥
+module _ (disk : ℕ) (table : Table) (limit : ℕ) (bodies : List (List ℕ)) where
+  grammar_or_table : (i : ℕ) (kept : Table) → IsOutOfOrder disk i bodies → (i ≢ 0 → AreMadeFor disk table bodies) → kept ≢ table → bodies ≢ [] → AreMadeFor disk kept bodies → ⊥
   grammar_or_table i kept out made other some is = elim (cases_eq i 0) [
-    | inl none ↦ first_stands bodies kept i is out none
-    | inr later ↦ other (same_table bodies table kept some (made later) is)
+    | inl none ↦ first_stands disk bodies kept i is out none
+    | inr later ↦ other (same_table disk bodies table kept some (made later) is)
   ]
 
-  pub one_fault : (f other : ImageFault) → IsLedgerFault table limit bodies f → IsLedgerFault table limit bodies other → other ≡ f
+  pub one_fault : (f other : ImageFault) → IsLedgerFault disk table limit bodies f → IsLedgerFault disk table limit bodies other → other ≡ f
   one_fault (Broken p) other one two = absurd one
   one_fault (Grammar i) (Broken p) one two = absurd two
-  one_fault (Grammar i) (Grammar j) one two = ap Grammar (same_index MayStand bodies i j one.0 two.0)
+  one_fault (Grammar i) (Grammar j) one two = ap Grammar (same_index (MayStand disk) bodies i j one.0 two.0)
   one_fault (Grammar i) (OtherTable kept asked) one two = absurd (grammar_or_table i kept one.0 one.1 two.1 two.2 two.3)
-  one_fault (Grammar i) (Epoch e) one two = absurd (in_order MayStand bodies i one.0 two.0.order)
-  one_fault (Grammar i) (Full p) one two = absurd (in_order MayStand bodies i one.0 two.0.order)
+  one_fault (Grammar i) (Epoch e) one two = absurd (in_order (MayStand disk) bodies i one.0 two.0.order)
+  one_fault (Grammar i) (Full p) one two = absurd (in_order (MayStand disk) bodies i one.0 two.0.order)
   one_fault (OtherTable kept asked) (Broken p) one two = absurd two
   one_fault (OtherTable kept asked) (Grammar j) one two = absurd (grammar_or_table j kept two.0 two.1 one.1 one.2 one.3)
-  one_fault (OtherTable kept asked) (OtherTable other asks) one two = ap₂ OtherTable (same_table bodies kept other one.2 one.3 two.3) (two.0 ∙ sym one.0)
-  one_fault (OtherTable kept asked) (Epoch e) one two = absurd (one.1 (same_table bodies table kept one.2 two.0.made one.3))
-  one_fault (OtherTable kept asked) (Full p) one two = absurd (one.1 (same_table bodies table kept one.2 two.0.made one.3))
+  one_fault (OtherTable kept asked) (OtherTable other asks) one two = ap₂ OtherTable (same_table disk bodies kept other one.2 one.3 two.3) (two.0 ∙ sym one.0)
+  one_fault (OtherTable kept asked) (Epoch e) one two = absurd (one.1 (same_table disk bodies table kept one.2 two.0.made one.3))
+  one_fault (OtherTable kept asked) (Full p) one two = absurd (one.1 (same_table disk bodies table kept one.2 two.0.made one.3))
   one_fault (Epoch e) (Broken p) one two = absurd two
-  one_fault (Epoch e) (Grammar j) one two = absurd (in_order MayStand bodies j two.0 one.0.order)
-  one_fault (Epoch e) (OtherTable kept asked) one two = absurd (two.1 (same_table bodies table kept two.2 one.0.made two.3))
+  one_fault (Epoch e) (Grammar j) one two = absurd (in_order (MayStand disk) bodies j two.0 one.0.order)
+  one_fault (Epoch e) (OtherTable kept asked) one two = absurd (two.1 (same_table disk bodies table kept two.2 one.0.made two.3))
   one_fault (Epoch e) (Epoch n) one two = ap Epoch (sym two.1 ∙ one.1)
   one_fault (Epoch e) (Full p) one two = absurd (omega (arith, one.1, one.2, two.1))
   one_fault (Full p) (Broken q) one two = absurd two
-  one_fault (Full p) (Grammar j) one two = absurd (in_order MayStand bodies j two.0 one.0.order)
-  one_fault (Full p) (OtherTable kept asked) one two = absurd (two.1 (same_table bodies table kept two.2 one.0.made two.3))
+  one_fault (Full p) (Grammar j) one two = absurd (in_order (MayStand disk) bodies j two.0 one.0.order)
+  one_fault (Full p) (OtherTable kept asked) one two = absurd (two.1 (same_table disk bodies table kept two.2 one.0.made two.3))
   one_fault (Full p) (Epoch e) one two = absurd (omega (arith, two.1, two.2, one.1))
   one_fault (Full p) (Full q) one two = ap Full (same_place limit bodies _ p q one.2 two.2)
 
-  pub fault_or_none : (f : ImageFault) → IsLedgerFault table limit bodies f → AreMountableAsLedger table limit bodies → ⊥
+  pub fault_or_none : (f : ImageFault) → IsLedgerFault disk table limit bodies f → AreMountableAsLedger disk table limit bodies → ⊥
   fault_or_none (Broken p) one fine = one
-  fault_or_none (Grammar i) one fine = in_order MayStand bodies i one.0 fine.ledgers.order
-  fault_or_none (OtherTable kept asked) one fine = one.1 (same_table bodies table kept one.2 fine.ledgers.made one.3)
+  fault_or_none (Grammar i) one fine = in_order (MayStand disk) bodies i one.0 fine.ledgers.order
+  fault_or_none (OtherTable kept asked) one fine = one.1 (same_table disk bodies table kept one.2 fine.ledgers.made one.3)
   fault_or_none (Epoch e) one fine = omega (arith, one.1, one.2, fine.epoch)
   fault_or_none (Full p) one fine = fine.room p one.2
 
@@ -113,9 +113,9 @@ module _ (Has : List (List ℕ) → ImageFault → Type 0) (image : List ℕ) wh
       by (inl a) = records_not_broken image bodies a.0 has a.2
       by (inr a) = none (subst (λ (l : List (List ℕ)). Has l f) (records-same image bodies a.0 has a.1) a.2)
 
-module _ (table : Table) (limit : ℕ) (image : List ℕ) where
-  pub one_first : (f other : ImageFault) → IsFirstFault (IsLedgerFault table limit) f image → IsFirstFault (IsLedgerFault table limit) other image → other ≡ f
-  one_first f other one two = first_is_one (IsLedgerFault table limit) image (one_fault table limit) f other one two
+module _ (disk : ℕ) (table : Table) (limit : ℕ) (image : List ℕ) where
+  pub one_first : (f other : ImageFault) → IsFirstFault (IsLedgerFault disk table limit) f image → IsFirstFault (IsLedgerFault disk table limit) other image → other ≡ f
+  one_first f other one two = first_is_one (IsLedgerFault disk table limit) image (one_fault disk table limit) f other one two
 
-  pub first_or_none : (f : ImageFault) (bodies : List (List ℕ)) → IsFirstFault (IsLedgerFault table limit) f image → HasRecords bodies image → AreMountableAsLedger table limit bodies → ⊥
-  first_or_none f bodies is has fine = first_or_else (IsLedgerFault table limit) image bodies f has (λ fault. fault_or_none table limit bodies f fault fine) is
+  pub first_or_none : (f : ImageFault) (bodies : List (List ℕ)) → IsFirstFault (IsLedgerFault disk table limit) f image → HasRecords bodies image → AreMountableAsLedger disk table limit bodies → ⊥
+  first_or_none f bodies is has fine = first_or_else (IsLedgerFault disk table limit) image bodies f has (λ fault. fault_or_none disk table limit bodies f fault fine) is

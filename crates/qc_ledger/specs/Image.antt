@@ -10,9 +10,9 @@ use Rattle.qc_codec.specs.declared.record.LedgerRecord.TheVariants as ledger_rec
 use Rattle.qc_journal.specs.Image.{row, HasRecords, IsBroken}
 use Rattle.qc_journal.specs.Journal.{IsTooLong}
 
--- the body that says that the ledger was made for a table
-abbrev pub made_body : Table → List ℕ
-made_body table = body.ledger.spell (ledger_record.Made (made_for 0 table))
+-- the body that says that a disk of the ledger's was made for a table
+abbrev pub made_body : ℕ → Table → List ℕ
+made_body disk table = body.ledger.spell (ledger_record.Made (made_for disk table))
 
 -- the body of an epoch
 abbrev pub epoch_body : ℕ → List ℕ
@@ -23,18 +23,18 @@ abbrev pub made_where_none : List ℕ → List (List ℕ) → List (List ℕ)
 made_where_none made [] = made ∷ []
 made_where_none made (first ∷ bodies) = []
 
--- what a mounting writes behind these bodies: how the ledger was made, where there are none, and the next epoch
-abbrev pub to_write : Table → List (List ℕ) → List (List ℕ)
-to_write table bodies = made_where_none (made_body table) bodies ++ epoch_body ((past_in bodies).epoch + 1) ∷ []
+-- what a mounting writes behind these bodies: how the disk was made, where there are none, and the next epoch
+abbrev pub to_write : ℕ → Table → List (List ℕ) → List (List ℕ)
+to_write disk table bodies = made_where_none (made_body disk table) bodies ++ epoch_body ((past_in bodies).epoch + 1) ∷ []
 
 -- the greatest epoch
 abbrev pub LAST_EPOCH : ℕ
 LAST_EPOCH = 2 ^ 32 - 1
 
--- the first of these bodies, where there is one, says that the ledger was made for a table
-abbrev pub AreMadeFor : Table → List (List ℕ) → Type 0
-AreMadeFor table [] = Unit {0}
-AreMadeFor table (first ∷ bodies) = all_of body.ledger first ≡ Some (ledger_record.Made (made_for 0 table))
+-- the first of these bodies, where there is one, says that a disk of the ledger's was made for a table
+abbrev pub AreMadeFor : ℕ → Table → List (List ℕ) → Type 0
+AreMadeFor disk table [] = Unit {0}
+AreMadeFor disk table (first ∷ bodies) = all_of body.ledger first ≡ Some (ledger_record.Made (made_for disk table))
 
 -- Of bodies that are written one behind another, behind these, the first that would pass the limit goes to this place.
 abbrev pub IsFull : ℕ → List (List ℕ) → List (List ℕ) → ℕ → Type 0
@@ -43,17 +43,17 @@ IsFull limit bodies (next ∷ more) place = ((place ≡ length (row bodies)) × 
     ⊎ ((IsTooLong (length (row bodies)) limit next → ⊥) × IsFull limit (bodies ++ next ∷ []) more place)
 
 -- Bodies are a ledger's for a table, in order.
-pub record AreLedgers (table : Table) (bodies : List (List ℕ)) : Type 0 where
-  pub made : AreMadeFor table bodies
-  pub order : AreInOrder bodies
+pub record AreLedgers (disk : ℕ) (table : Table) (bodies : List (List ℕ)) : Type 0 where
+  pub made : AreMadeFor disk table bodies
+  pub order : AreInOrder disk bodies
 
 -- the first fault that bodies have
-abbrev pub IsLedgerFault : Table → ℕ → List (List ℕ) → ImageFault → Type 0
-IsLedgerFault table limit bodies (Broken place) = ⊥
-IsLedgerFault table limit bodies (Grammar index) = IsOutOfOrder index bodies × (index ≢ 0 → AreMadeFor table bodies)
-IsLedgerFault table limit bodies (OtherTable kept asked) = (asked ≡ table) × (kept ≢ table) × (bodies ≢ []) × AreMadeFor kept bodies
-IsLedgerFault table limit bodies (Epoch epoch) = AreLedgers table bodies × ((past_in bodies).epoch ≡ epoch) × (epoch ≡ LAST_EPOCH)
-IsLedgerFault table limit bodies (Full place) = AreLedgers table bodies × ((past_in bodies).epoch < LAST_EPOCH) × IsFull limit bodies (to_write table bodies) place
+abbrev pub IsLedgerFault : ℕ → Table → ℕ → List (List ℕ) → ImageFault → Type 0
+IsLedgerFault disk table limit bodies (Broken place) = ⊥
+IsLedgerFault disk table limit bodies (Grammar index) = IsOutOfOrder disk index bodies × (index ≢ 0 → AreMadeFor disk table bodies)
+IsLedgerFault disk table limit bodies (OtherTable kept asked) = (asked ≡ table) × (kept ≢ table) × (bodies ≢ []) × AreMadeFor disk kept bodies
+IsLedgerFault disk table limit bodies (Epoch epoch) = AreLedgers disk table bodies × ((past_in bodies).epoch ≡ epoch) × (epoch ≡ LAST_EPOCH)
+IsLedgerFault disk table limit bodies (Full place) = AreLedgers disk table bodies × ((past_in bodies).epoch < LAST_EPOCH) × IsFull limit bodies (to_write disk table bodies) place
 
 -- the first fault of an image: it is broken, or its bodies have a fault
 abbrev pub IsFirstFault : (List (List ℕ) → ImageFault → Type 0) → ImageFault → List ℕ → Type 0
@@ -61,7 +61,7 @@ IsFirstFault Has (Broken place) image = IsBroken place image
 IsFirstFault Has fault image = (bodies : List (List ℕ)) × HasRecords bodies image × Has bodies fault
 
 -- Bodies have no fault, and what a mounting writes fits behind them.
-pub record AreMountableAsLedger (table : Table) (limit : ℕ) (bodies : List (List ℕ)) : Type 0 where
-  pub ledgers : AreLedgers table bodies
+pub record AreMountableAsLedger (disk : ℕ) (table : Table) (limit : ℕ) (bodies : List (List ℕ)) : Type 0 where
+  pub ledgers : AreLedgers disk table bodies
   pub epoch : (past_in bodies).epoch < LAST_EPOCH
-  pub room : (place : ℕ) → IsFull limit bodies (to_write table bodies) place → ⊥
+  pub room : (place : ℕ) → IsFull limit bodies (to_write disk table bodies) place → ⊥

@@ -3,6 +3,7 @@ pub mod Refusing
 pub mod Seen
 pub mod Reading
 pub mod Mounted
+pub mod Pairs
 pub mod Runs
 pub mod Shelf
 pub mod Entered

@@ -27,13 +27,13 @@ pub record HasSome (bodies more : List (List ℕ)) (image : List ℕ) : Type 0 w
 
 -- Bodies were found, which are a ledger's and tell this past. A disk that tells its bytes has them, without a fault.
 -- What a mounting writes stands behind them.
-pub record MountsLedger (table : Table) (limit : ℕ) (told : Option (List ℕ)) (records : List (List ℕ)) (past : Past) (epoch : ℕ) : Type 0 where
+pub record MountsLedger (disk : ℕ) (table : Table) (limit : ℕ) (told : Option (List ℕ)) (records : List (List ℕ)) (past : Past) (epoch : ℕ) : Type 0 where
   pub found : List (List ℕ)
-  pub ledgers : AreLedgers table found
-  pub fine : IfSome told (λ bytes. HasRecords found bytes × AreMountableAsLedger table limit found)
+  pub ledgers : AreLedgers disk table found
+  pub fine : IfSome told (λ bytes. HasRecords found bytes × AreMountableAsLedger disk table limit found)
   pub past_is : past ≡ past_in found
   pub next : epoch ≡ past.epoch + 1
-  pub all : records ≡ found ++ to_write table found
+  pub all : records ≡ found ++ to_write disk table found
 
 -- An image was left before, or it has the records that were found and some first ones of those that are written behind.
 abbrev pub MountLeaves : (List (List ℕ) → List (List ℕ)) → (List ℕ → Type 0) → Option (List ℕ) → List ℕ → Type 0

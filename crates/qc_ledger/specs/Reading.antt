@@ -14,26 +14,27 @@ use Rattle.qc_journal.specs.Image.{bodies_of}
 use Rattle.qc_ledger.specs.Seen.{told_by, HasNumbers}
 use Rattle.qc_ledger.specs.declared.seen.Seen.{Seen}
 
--- the first body tells nothing that may stand first, or that the ledger was made for another table
-abbrev pub IsFirstBad : Table → List ℕ → ImageFault → Type 0
-IsFirstBad table first (Grammar index) = (index ≡ 0) × (MayStand [] first → ⊥)
-IsFirstBad table first (OtherTable kept asked) = (asked ≡ table) × (kept ≢ table) × (all_of body.ledger first ≡ Some (ledger_record.Made (made_for 0 kept)))
-IsFirstBad table first _ = ⊥
+module _ (disk : ℕ) where
+  -- the first body tells nothing that may stand first, or that the disk was made for another table
+  abbrev pub IsFirstBad : Table → List ℕ → ImageFault → Type 0
+  IsFirstBad table first (Grammar index) = (index ≡ 0) × (MayStand disk [] first → ⊥)
+  IsFirstBad table first (OtherTable kept asked) = (asked ≡ table) × (kept ≢ table) × (all_of body.ledger first ≡ Some (ledger_record.Made (made_for disk kept)))
+  IsFirstBad table first _ = ⊥
 
--- a body behind the first may not stand where it does
-abbrev pub IsLaterBad : List (List ℕ) → ImageFault → Type 0
-IsLaterBad bodies (Grammar index) = (index ≢ 0) × IsOutOfOrder index bodies
-IsLaterBad bodies _ = ⊥
+  -- a body behind the first may not stand where it does
+  abbrev pub IsLaterBad : List (List ℕ) → ImageFault → Type 0
+  IsLaterBad bodies (Grammar index) = (index ≢ 0) × IsOutOfOrder disk index bodies
+  IsLaterBad bodies _ = ⊥
 
 -- a body tells how a disk was made, of a store of so many copies
 abbrev pub IsMadeOver : ℕ → List ℕ → Type 0
 IsMadeOver copies first = MatchOption (all_of body.made first) ⊥ (λ (made : Made). made.table.copies ≡ copies)
 
 -- So many first bodies were read, which are in order. What they tell is known, and the base of all stands among them.
-pub record AreRead (bodies : List (Vec ℕ Global)) (seen : Seen) (count : ℕ) : Type 0 where
+pub record AreRead (disk : ℕ) (bodies : List (Vec ℕ Global)) (seen : Seen) (count : ℕ) : Type 0 where
   pub some : 1 ≤ count
   pub within : count ≤ length bodies
   pub told : told_by seen ≡ past_in (bodies_of (take count bodies))
-  pub order : AreInOrder (bodies_of (take count bodies))
+  pub order : AreInOrder disk (bodies_of (take count bodies))
   pub base : base_in ledger_base (bodies_of (take count bodies)) ≡ base_in ledger_base (bodies_of bodies)
   pub numbers : HasNumbers seen

@@ -21,16 +21,33 @@ MayCostTwo Disk = Unit {0}
 MayCostTwo (Short short) = Unit {0}
 MayCostTwo _ = ⊥
 
--- the ledger's image is refused
-abbrev pub image_no : ImageFault → LedgerNo
-image_no f = Image (record { disk = 0; fault = f })
+module _ (disk : ℕ) where
+  -- the image of a disk of the ledger's is refused
+  abbrev pub image_no : ImageFault → LedgerNo
+  image_no f = Image (record { disk = disk; fault = f })
 
--- what a fault of the journal is to a mounting
-abbrev pub ledger_mount_no : Fault → LedgerNo
-ledger_mount_no fault.Disk = Disk
-ledger_mount_no (fault.Broken place) = image_no (image.Broken place)
-ledger_mount_no (fault.Full place) = image_no (image.Full place)
-ledger_mount_no fault.Memory = Short Memory
+  -- what a fault of the journal is to a mounting
+  abbrev pub ledger_mount_no : Fault → LedgerNo
+  ledger_mount_no fault.Disk = Disk
+  ledger_mount_no (fault.Broken place) = image_no (image.Broken place)
+  ledger_mount_no (fault.Full place) = image_no (image.Full place)
+  ledger_mount_no fault.Memory = Short Memory
+
+  -- a fault of the disk's image, of which this holds; or of the disk or the memory
+  abbrev pub IsOfLedgerImage : (ImageFault → Type 0) → LedgerNo → Type 0
+  IsOfLedgerImage P Disk = Unit {0}
+  IsOfLedgerImage P (Image bad) = (bad.disk ≡ disk) × P bad.fault
+  IsOfLedgerImage P (Full place) = ⊥
+  IsOfLedgerImage P (Short Memory) = Unit {0}
+  IsOfLedgerImage P (Short Room) = ⊥
+
+  -- a fault of the disk's image, of which this holds; or of the memory
+  abbrev pub IsOfBytes : (ImageFault → Type 0) → LedgerNo → Type 0
+  IsOfBytes P Disk = ⊥
+  IsOfBytes P (Image bad) = (bad.disk ≡ disk) × P bad.fault
+  IsOfBytes P (Full place) = ⊥
+  IsOfBytes P (Short Memory) = Unit {0}
+  IsOfBytes P (Short Room) = ⊥
 
 -- what a fault of the journal is to a logging
 abbrev pub log_no : Fault → LedgerNo
@@ -39,25 +56,9 @@ log_no (fault.Broken place) = Disk
 log_no (fault.Full place) = Full place
 log_no fault.Memory = Short Memory
 
--- a fault of the ledger's image, of which this holds; or of the disk or the memory
-abbrev pub IsOfLedgerImage : (ImageFault → Type 0) → LedgerNo → Type 0
-IsOfLedgerImage P Disk = Unit {0}
-IsOfLedgerImage P (Image bad) = (bad.disk ≡ 0) × P bad.fault
-IsOfLedgerImage P (Full place) = ⊥
-IsOfLedgerImage P (Short Memory) = Unit {0}
-IsOfLedgerImage P (Short Room) = ⊥
-
--- a fault of the ledger's image, of which this holds; or of the memory
-abbrev pub IsOfBytes : (ImageFault → Type 0) → LedgerNo → Type 0
-IsOfBytes P Disk = ⊥
-IsOfBytes P (Image bad) = (bad.disk ≡ 0) × P bad.fault
-IsOfBytes P (Full place) = ⊥
-IsOfBytes P (Short Memory) = Unit {0}
-IsOfBytes P (Short Room) = ⊥
-
 -- a mounting may be refused: for the first fault of the image that is told, for the disk, or for memory
 abbrev pub IsLedgerRefusal : Table → ℕ → Option (List ℕ) → LedgerNo → Type 0
-IsLedgerRefusal table limit told fault = IsOfLedgerImage (λ f. IfSome told (IsFirstFault (IsLedgerFault table limit) f)) fault
+IsLedgerRefusal table limit told fault = IsOfLedgerImage 0 (λ f. IfSome told (IsFirstFault (IsLedgerFault 0 table limit) f)) fault
 
 -- a fault of the disk, of want of room or of the memory
 abbrev pub IsOfWriting : Fault → Type 0
@@ -65,3 +66,11 @@ IsOfWriting fault.Disk = Unit {0}
 IsOfWriting (fault.Broken place) = ⊥
 IsOfWriting (fault.Full place) = Unit {0}
 IsOfWriting fault.Memory = Unit {0}
+
+-- a checkpoint may be refused: by the disk, for want of room on it, or for memory
+abbrev pub IsCheckpointNo : LedgerNo → Type 0
+IsCheckpointNo Disk = Unit {0}
+IsCheckpointNo (Image bad) = ⊥
+IsCheckpointNo (Full place) = Unit {0}
+IsCheckpointNo (Short Memory) = Unit {0}
+IsCheckpointNo (Short Room) = ⊥

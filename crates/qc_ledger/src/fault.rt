@@ -1,5 +1,6 @@
 //! Why the ledger did not do what it was asked.
 ghost use Rattle.std.specs.Prelude.{◌≡◌};
+ghost use Rattle.qc_ledger.specs.Pairs.{pair_no};
 ghost use Rattle.qc_ledger.specs.Refusing.{ledger_mount_no, image_no, log_no};
 ghost use Rattle.qc_event.specs.declared.short.Short.TheVariants.{Memory};
 ghost use Rattle.qc_ledger.specs.declared.fault.LedgerNo.TheVariants as no;
@@ -7,6 +8,7 @@ ghost use Rattle.qc_ledger.specs.declared.fault.LedgerNo.TheVariants as no;
 use qc_codec::{BadImage, ImageFault};
 use qc_event::Short;
 use qc_journal::Fault;
+use qc_pair::PairNo;
 use std::alloc::{AllocError, AllocFailed};
 use thiserror::Error;
 
@@ -19,7 +21,8 @@ pub enum LedgerNo {
     /// What stands on the disk is refused. Mounting alone says so.
     #[error("{0}")]
     Image(BadImage),
-    /// A top's record, behind the gate at this place, would pass the limit. Logging alone says so.
+    /// A record, behind the gate at this place, would pass the limit: a top's, or one of a checkpoint, which says 0 too
+    /// where the last number of a fold was used up.
     #[error("no room at {place}")]
     Full { place: u64 },
     /// There was no memory; or the history takes no more entries, which logging and reviving alone say.
@@ -62,21 +65,36 @@ pub(crate) fn log_no(fault: Fault) -> LedgerNo
     }
 }
 
-/// The ledger's image is refused.
-pub(crate) fn image_no(fault: ImageFault) -> LedgerNo
-    ensures { result ≡ image_no fault }
+/// The image of the ledger's disk of this number is refused.
+pub(crate) fn image_no(disk: u8, fault: ImageFault) -> LedgerNo
+    ensures { result ≡ image_no disk fault }
 {
-    LedgerNo::Image(BadImage { disk: 0, fault })
+    LedgerNo::Image(BadImage { disk, fault })
 }
 
-/// What a fault of the journal is to a mounting.
-pub(crate) fn mount_no(fault: Fault) -> LedgerNo
-    ensures { result ≡ ledger_mount_no fault }
+/// What a fault of the journal is to a mounting of the disk of this number.
+pub(crate) fn mount_no(disk: u8, fault: Fault) -> LedgerNo
+    ensures { result ≡ ledger_mount_no disk fault }
 {
     match fault {
         Fault::Disk => LedgerNo::Disk,
-        Fault::Broken { place } => image_no(ImageFault::Broken { place }),
-        Fault::Full { place } => image_no(ImageFault::Full { place }),
+        Fault::Broken { place } => image_no(disk, ImageFault::Broken { place }),
+        Fault::Full { place } => image_no(disk, ImageFault::Full { place }),
         Fault::Memory => LedgerNo::Short(Short::Memory),
+    }
+}
+
+/// What a refusal over the disk of this number is to the mounting of its pair.
+pub(crate) fn pair_no(disk: u8, no: LedgerNo) -> PairNo
+    ensures { result ≡ pair_no disk no }
+{
+    match no {
+        LedgerNo::Disk => PairNo::Disk(disk),
+        LedgerNo::Image(bad) => PairNo::Image(bad),
+        LedgerNo::Full { place } => {
+            let fault = ImageFault::Full { place };
+            PairNo::Image(BadImage { disk, fault })
+        }
+        LedgerNo::Short(_) => PairNo::Memory,
     }
 }

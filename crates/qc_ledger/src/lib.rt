@@ -2,10 +2,12 @@
 #![tactic(auto)]
 
 mod book;
+mod checkpoint;
 mod fault;
 mod law;
 mod ledger;
 mod mounting;
+mod pairs;
 mod reading;
 mod seen;
 mod shelf;
@@ -15,4 +17,5 @@ pub use fault::LedgerNo;
 pub use law::one_verdict;
 pub use ledger::Ledger;
 pub use mounting::{make, mount};
+pub use pairs::{hand_back, mount_pair};
 pub use shelf::Shelf;

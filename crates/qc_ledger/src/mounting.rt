@@ -2,7 +2,7 @@
 ghost use Rattle.std.specs.Prelude.{ℕ, ◌≡◌, ◌<◌, ◌+◌, [], ◌∷◌, ◌++◌, List, IfOk, IfErr, IsSome, OnOk, OnErr, IsErrOf, IsErrAnd, Err};
 ghost use Rattle.qc_disk.specs.Disk.{CountsOnce, HasCause, LeavesOnly, Grows};
 ghost use Rattle.qc_codec.specs.Bodies as body;
-ghost use Rattle.qc_codec.specs.Ledger.{past_in};
+ghost use Rattle.qc_codec.specs.Ledger.{made_for, past_in};
 ghost use Rattle.qc_journal.specs.Image.{HasAt, bodies_of};
 ghost use Rattle.qc_journal.specs.Journal.{disk_of, limit_of, IsUp, Keeps};
 ghost use Rattle.qc_journal.specs.declared.fault.Fault.TheVariants.{Full};
@@ -16,7 +16,7 @@ use crate::fault::{LedgerNo, mount_no};
 use crate::reading::past_of;
 use qc_codec::{LedgerRecord, Made, Past, copy_table, write_ledger, write_made};
 use qc_disk::Disk;
-use qc_event::Table;
+use qc_event::{Short, Table};
 use qc_journal::{Body, Fault, Journal};
 use qc_names::lists::append_moved;
 use std::alloc::{AllocError, Global};
@@ -109,6 +109,21 @@ fn write_both<D: Disk>(
     write(journal, bodies, epoch)
 }
 
+/// How the ledger's disk of this number is made for a table, and the body that says so.
+pub(crate) fn made_of(alloc: Global, who: u8, table: &Table) -> Result<(Made, Body), LedgerNo>
+    requires proper { (body.table 1).fits table.now }
+    ensures made { IfOk result (λ made. made.0 ≡ made_for who table.now) }
+    ensures body { IfOk result (λ made. made.1.items ≡ made_body who table.now) }
+    ensures memory { IfErr result (λ no. no ≡ LedgerNo.Short Short.Memory) }
+{
+    let made = Made {
+        who,
+        table: copy_table(alloc, table)?,
+    };
+    let spelled = write_made(alloc, &made)?;
+    Ok((made, spelled))
+}
+
 // What bodies tell, how the ledger was made, and the next epoch.
 #[derive(Drop)]
 struct Plan {
@@ -118,21 +133,17 @@ struct Plan {
 }
 
 // What bodies tell, and what a mounting writes behind them.
-fn plan_of(alloc: Global, bodies: &[Body], table: &Table) -> Result<Plan, LedgerNo>
+fn plan_of(alloc: Global, who: u8, bodies: &[Body], table: &Table) -> Result<Plan, LedgerNo>
     requires proper { (body.table 1).fits table.now }
     ensures past { IfOk result (λ plan. plan.past ≡ past_in (bodies_of bodies.now)) }
     ensures last { IfOk result (λ plan. plan.past.epoch < LAST_EPOCH) }
-    ensures ledgers { OnOk result (AreLedgers table.now (bodies_of bodies.now)) }
-    ensures made { IfOk result (λ plan. plan.made.items ≡ made_body table.now) }
+    ensures ledgers { OnOk result (AreLedgers who table.now (bodies_of bodies.now)) }
+    ensures made { IfOk result (λ plan. plan.made.items ≡ made_body who table.now) }
     ensures epoch { IfOk result (λ plan. plan.epoch.items ≡ epoch_body (plan.past.epoch + 1)) }
     ensures fault { (limit : ℕ)
-        → IfErr result (IsOfBytes (IsLedgerFault table.now limit (bodies_of bodies.now))) }
+        → IfErr result (IsOfBytes who (IsLedgerFault who table.now limit (bodies_of bodies.now))) }
 {
-    let made = Made {
-        who: 0,
-        table: copy_table(alloc, table)?,
-    };
-    let spelled = write_made(alloc, &made)?;
+    let (made, spelled) = made_of(alloc, who, table)?;
     let past = past_of(alloc, bodies, made, &spelled)?;
     let epoch = write_ledger(alloc, &LedgerRecord::Epoch(past.epoch + 1))?;
     Ok(Plan {
@@ -142,9 +153,10 @@ fn plan_of(alloc: Global, bodies: &[Body], table: &Table) -> Result<Plan, Ledger
     })
 }
 
-// Reads what the bodies tell, and writes what a mounting writes.
-fn begin<D: Disk>(
+/// Reads what the bodies tell, and writes what a mounting of the disk of this number writes.
+pub(crate) fn begin<D: Disk>(
     alloc: Global,
+    who: u8,
     journal: &mut Journal<D>,
     bodies: &mut Vec<Body>,
     table: &Table,
@@ -154,27 +166,27 @@ fn begin<D: Disk>(
     ensures up { OnOk result (IsUp journal.new) }
     ensures past { IfOk result (λ past. past ≡ past_in (bodies_of bodies.old.items)) }
     ensures epoch { IfOk result (λ past. past.epoch < LAST_EPOCH) }
-    ensures ledgers { OnOk result (AreLedgers table.now (bodies_of bodies.old.items)) }
+    ensures ledgers { OnOk result (AreLedgers who table.now (bodies_of bodies.old.items)) }
     ensures fine { OnOk result (KeepsAll journal.old bodies.old
-        → AreMountableAsLedger table.now (limit_of journal.old) (bodies_of bodies.old.items)) }
+        → AreMountableAsLedger who table.now (limit_of journal.old) (bodies_of bodies.old.items)) }
     ensures bodies { OnOk result (HasMore bodies.old bodies.new
-        (to_write table.now (bodies_of bodies.old.items))) }
+        (to_write who table.now (bodies_of bodies.old.items))) }
     ensures limit { limit_of journal.new ≡ limit_of journal.old }
     ensures keeps { OnOk result (KeepsAll journal.old bodies.old
         → KeepsAll journal.new bodies.new) }
-    ensures refused { IfErr result (IsOfLedgerImage (λ fault. KeepsAll journal.old bodies.old
-        → IsLedgerFault table.now (limit_of journal.old) (bodies_of bodies.old.items) fault)) }
+    ensures refused { IfErr result (IsOfLedgerImage who (λ fault. KeepsAll journal.old bodies.old
+        → IsLedgerFault who table.now (limit_of journal.old) (bodies_of bodies.old.items) fault)) }
     ensures any_moment { KeepsAll journal.old bodies.old
         → Leaves journal.old journal.new (HasSome (bodies_of bodies.old.items)
-        (to_write table.now (bodies_of bodies.old.items))) }
+        (to_write who table.now (bodies_of bodies.old.items))) }
     ensures grows { KeepsAll journal.old bodies.old → LosesNone journal.old journal.new }
     ensures cause { Costs journal.old journal.new (IsErrOf result LedgerNo.Disk) }
     ensures counts_once { CostsOnce journal.old journal.new (IsErrOf result LedgerNo.Disk) }
 {
-    let Plan { past, made, epoch } = plan_of(alloc, bodies, table)?;
+    let Plan { past, made, epoch } = plan_of(alloc, who, bodies, table)?;
     match write_both(journal, bodies, made, epoch) {
         Ok(()) => Ok(past),
-        Err(fault) => Err(mount_no(fault)),
+        Err(fault) => Err(mount_no(who, fault)),
     }
 }
 
@@ -189,7 +201,7 @@ pub fn mount<D: Disk>(
     requires proper { (body.table 1).fits table.now }
 
     // The past is what the records tell that were found, and the epoch, which stands behind them, is the next.
-    ensures mounts { IfOk result (λ mounted. MountsLedger table.now limit (D.view disk).content
+    ensures mounts { IfOk result (λ mounted. MountsLedger 0 table.now limit (D.view disk).content
         (records_of mounted.0) mounted.1 mounted.2) }
     ensures limit { IfOk result (λ mounted. limit_of (journal_of mounted.0) ≡ limit) }
 
@@ -203,7 +215,7 @@ pub fn mount<D: Disk>(
 
     ensures any_moment { IsSome (D.view disk).content
         → LeavesOnly D.view disk (disk_after result)
-        (MountLeaves (to_write table.now) (D.view disk).may_leave (D.view disk).content) }
+        (MountLeaves (to_write 0 table.now) (D.view disk).may_leave (D.view disk).content) }
     ensures grows { IsSome (D.view disk).content → (index : ℕ) (had : List ℕ)
         → Grows D.view disk (disk_after result) (HasAt index had) }
     ensures cause { HasCause (D.view disk).faults (D.view (disk_after result)).faults
@@ -213,9 +225,9 @@ pub fn mount<D: Disk>(
 {
     let (mut journal, mut bodies) = match Journal::mount(alloc, disk, limit) {
         Ok(mounted) => mounted,
-        Err((disk, fault)) => return Err((disk, mount_no(fault))),
+        Err((disk, fault)) => return Err((disk, mount_no(0, fault))),
     };
-    match begin(alloc, &mut journal, &mut bodies, table) {
+    match begin(alloc, 0, &mut journal, &mut bodies, table) {
         Ok(past) => {
             let epoch = past.epoch + 1;
             let book = Book {

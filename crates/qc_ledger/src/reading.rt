@@ -21,21 +21,21 @@ use std::alloc::Global;
 // Holds the first body to how the ledger was made: what it is, and its spelling.
 fn check_made(alloc: Global, first: &[u8], made: Made, spelled: &[u8]) -> Result<(), LedgerNo>
     requires fits { body.made.fits made }
-    requires who { made.who ≡ 0 }
-    requires spelled { spelled.now ≡ made_body made.table }
+    requires spelled { spelled.now ≡ made_body made.who made.table }
     ensures made { OnOk result (all_of body.ledger first.now ≡ Some (LedgerRecord.Made made)) }
     ensures over { OnOk result (all_of body.made first.now ≡ Some made) }
-    ensures fault { IfErr result (IsOfBytes (IsFirstBad made.table first.now)) }
+    ensures fault { IfErr result (IsOfBytes made.who (IsFirstBad made.who made.table first.now)) }
 {
     if first == spelled {
         return Ok(());
     }
+    let who = made.who;
     match read_ledger(alloc, first) {
-        Ok(LedgerRecord::Made(kept)) if kept.who == 0 => Err(image_no(ImageFault::Table {
-            kept: kept.table,
-            asked: made.table,
-        })),
-        Ok(_) | Err(CodecNo::Bad) => Err(image_no(ImageFault::Grammar { index: 0 })),
+        Ok(LedgerRecord::Made(kept)) if kept.who == who => {
+            let (kept, asked) = (kept.table, made.table);
+            Err(image_no(who, ImageFault::Table { kept, asked }))
+        }
+        Ok(_) | Err(CodecNo::Bad) => Err(image_no(who, ImageFault::Grammar { index: 0 })),
         Err(CodecNo::Memory) => Err(LedgerNo::Short(Short::Memory)),
     }
 }
@@ -63,12 +63,17 @@ fn take_base(alloc: Global, seen: &mut Seen, bytes: &[u8], copies: u8) -> Result
 
 // What the first body tells, which says how the ledger was made, and the second where it is a base; and how many
 // bodies they are.
-fn read_front(alloc: Global, bodies: &[Body], copies: u8) -> Result<(Seen, usize), LedgerNo>
+fn read_front(
+    alloc: Global,
+    who: u8,
+    bodies: &[Body],
+    copies: u8,
+) -> Result<(Seen, usize), LedgerNo>
     requires few { copies ≤ 16 }
     requires some { 0 < length bodies.now }
-    requires made { MayStand [] (slice_index_or (bodies_of bodies.now) 0 []) }
+    requires made { MayStand who [] (slice_index_or (bodies_of bodies.now) 0 []) }
     requires over { IsMadeOver copies (slice_index_or (bodies_of bodies.now) 0 []) }
-    ensures read { IfOk result (λ front. AreRead bodies.now front.0 front.1) }
+    ensures read { IfOk result (λ front. AreRead who bodies.now front.0 front.1) }
     ensures memory { IfErr result (λ no. no ≡ LedgerNo.Short Short.Memory) }
 {
     let mut seen = Seen::new(alloc);
@@ -99,27 +104,27 @@ fn take_next(alloc: Global, seen: &mut Seen, bytes: &[u8]) -> Result<bool, Ledge
 }
 
 // What bodies tell whose first says how the ledger was made, where each may stand behind those before it.
-fn read_rest(alloc: Global, bodies: &[Body], copies: u8) -> Result<Seen, LedgerNo>
+fn read_rest(alloc: Global, who: u8, bodies: &[Body], copies: u8) -> Result<Seen, LedgerNo>
     requires few { copies ≤ 16 }
     requires some { 0 < length bodies.now }
-    requires made { MayStand [] (slice_index_or (bodies_of bodies.now) 0 []) }
+    requires made { MayStand who [] (slice_index_or (bodies_of bodies.now) 0 []) }
     requires over { IsMadeOver copies (slice_index_or (bodies_of bodies.now) 0 []) }
     ensures told { IfOk result (λ seen. told_by seen ≡ past_in (bodies_of bodies.now)) }
-    ensures order { OnOk result (AreInOrder (bodies_of bodies.now)) }
-    ensures fault { IfErr result (IsOfBytes (IsLaterBad (bodies_of bodies.now))) }
+    ensures order { OnOk result (AreInOrder who (bodies_of bodies.now)) }
+    ensures fault { IfErr result (IsOfBytes who (IsLaterBad who (bodies_of bodies.now))) }
 {
-    let (mut seen, behind) = read_front(alloc, bodies, copies)?;
+    let (mut seen, behind) = read_front(alloc, who, bodies, copies)?;
     for index in behind..bodies.len() {
         if !take_next(alloc, &mut seen, bodies[index].as_slice())? {
             let index = index as u64;
-            return Err(image_no(ImageFault::Grammar { index }));
+            return Err(image_no(who, ImageFault::Grammar { index }));
         }
     }
     Ok(seen)
 }
 
-/// What bodies tell, where they are a ledger's for the table of a made record with this spelling, and an epoch may
-/// follow.
+/// What bodies tell, where they are a ledger's for the disk and the table of a made record with this spelling, and an
+/// epoch may follow.
 pub(crate) fn past_of(
     alloc: Global,
     bodies: &[Body],
@@ -127,22 +132,22 @@ pub(crate) fn past_of(
     spelled: &[u8],
 ) -> Result<Past, LedgerNo>
     requires fits { body.made.fits made }
-    requires who { made.who ≡ 0 }
-    requires spelled { spelled.now ≡ made_body made.table }
+    requires spelled { spelled.now ≡ made_body made.who made.table }
     ensures past { IfOk result (λ past. past ≡ past_in (bodies_of bodies.now)) }
-    ensures ledgers { OnOk result (AreLedgers made.table (bodies_of bodies.now)) }
+    ensures ledgers { OnOk result (AreLedgers made.who made.table (bodies_of bodies.now)) }
     ensures epoch { IfOk result (λ past. past.epoch < LAST_EPOCH) }
     ensures fault { (limit : ℕ)
-        → IfErr result (IsOfBytes (IsLedgerFault made.table limit (bodies_of bodies.now))) }
+        → IfErr result (IsOfBytes made.who
+        (IsLedgerFault made.who made.table limit (bodies_of bodies.now))) }
 {
     if bodies.is_empty() {
         return Ok(Seen::new(alloc).into_past());
     }
-    let copies = made.table.copies;
+    let (who, copies) = (made.who, made.table.copies);
     check_made(alloc, bodies[0].as_slice(), made, spelled)?;
-    let seen = read_rest(alloc, bodies, copies)?;
+    let seen = read_rest(alloc, who, bodies, copies)?;
     if seen.epoch() == u32::MAX {
-        return Err(image_no(ImageFault::Epoch(u32::MAX)));
+        return Err(image_no(who, ImageFault::Epoch(u32::MAX)));
     }
     Ok(seen.into_past())
 }

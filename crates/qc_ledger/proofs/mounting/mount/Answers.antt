@@ -21,8 +21,8 @@ returns-in-Ok-begin-clause-mounts g c =
     record {
       found = found;
       ledgers = c.in-Ok-begin.ensures.ledgers;
-      fine = fine_told (AreMountableAsLedger c.args.table.now c.args.limit found) (g.D.Disk.view c.args.disk).content found c.in-Ok.ensures.records
-          (λ some. subst (λ n. AreMountableAsLedger c.args.table.now n found) c.in-Ok.ensures.limit (c.in-Ok-begin.ensures.fine (c.in-Ok.ensures.keeps some)));
+      fine = fine_told (AreMountableAsLedger 0 c.args.table.now c.args.limit found) (g.D.Disk.view c.args.disk).content found c.in-Ok.ensures.records
+          (λ some. subst (λ n. AreMountableAsLedger 0 c.args.table.now n found) c.in-Ok.ensures.limit (c.in-Ok-begin.ensures.fine (c.in-Ok.ensures.keeps some)));
       past_is = c.in-Ok-begin.ensures.past;
       next = refl;
       all = c.in-Ok-begin.ensures.bodies;
@@ -34,10 +34,10 @@ returns-in-Ok-begin-clause-any_moment g c = λ some.
     let left = (g.D.Disk.view c.args.disk).may_leave in
     let mid = disk_of c.in-Ok.mounted.0 in
     let bodies = bodies_of c.in-Ok.mounted.1.items in
-    (continues g.D.Disk.view c.args.disk mid (disk_of c.begin.new.journal) _ (HasSome bodies (to_write c.args.table.now bodies)) (MountLeaves (to_write c.args.table.now) left told)
+    (continues g.D.Disk.view c.args.disk mid (disk_of c.begin.new.journal) _ (HasSome bodies (to_write 0 c.args.table.now bodies)) (MountLeaves (to_write 0 c.args.table.now) left told)
     c.in-Ok.ensures.any_moment (c.begin.ensures.any_moment (c.in-Ok.ensures.keeps some))
-    (leaves_first (to_write c.args.table.now) left told (g.met.D.Disk.reads_as_image c.args.disk))
-    (leaves_then (to_write c.args.table.now) left told bodies c.in-Ok.ensures.records))
+    (leaves_first (to_write 0 c.args.table.now) left told (g.met.D.Disk.reads_as_image c.args.disk))
+    (leaves_then (to_write 0 c.args.table.now) left told bodies c.in-Ok.ensures.records))
 
 pub returns-in-Ok-begin-clause-grows : goal.returns-in-Ok-begin-clause-grows
 returns-in-Ok-begin-clause-grows g c = λ some index had.
@@ -52,11 +52,11 @@ returns-in-Err-begin-clause-any_moment g c = λ some.
     let left = (g.D.Disk.view c.args.disk).may_leave in
     let mid = disk_of c.in-Ok.mounted.0 in
     let bodies = bodies_of c.in-Ok.mounted.1.items in
-    subst (λ d. LeavesOnly g.D.Disk.view c.args.disk d (MountLeaves (to_write c.args.table.now) left told)) (sym c.into_disk.ensures)
-    (continues g.D.Disk.view c.args.disk mid (disk_of c.begin.new.journal) _ (HasSome bodies (to_write c.args.table.now bodies)) (MountLeaves (to_write c.args.table.now) left told)
+    subst (λ d. LeavesOnly g.D.Disk.view c.args.disk d (MountLeaves (to_write 0 c.args.table.now) left told)) (sym c.into_disk.ensures)
+    (continues g.D.Disk.view c.args.disk mid (disk_of c.begin.new.journal) _ (HasSome bodies (to_write 0 c.args.table.now bodies)) (MountLeaves (to_write 0 c.args.table.now) left told)
     c.in-Ok.ensures.any_moment (c.begin.ensures.any_moment (c.in-Ok.ensures.keeps some))
-    (leaves_first (to_write c.args.table.now) left told (g.met.D.Disk.reads_as_image c.args.disk))
-    (leaves_then (to_write c.args.table.now) left told bodies c.in-Ok.ensures.records))
+    (leaves_first (to_write 0 c.args.table.now) left told (g.met.D.Disk.reads_as_image c.args.disk))
+    (leaves_then (to_write 0 c.args.table.now) left told bodies c.in-Ok.ensures.records))
 
 pub returns-in-Err-begin-clause-grows : goal.returns-in-Err-begin-clause-grows
 returns-in-Err-begin-clause-grows g c = λ some index had.

@@ -11,8 +11,8 @@ pub returns-in_err-check_made-clause-fault : goal.returns-in_err-check_made-clau
 returns-in_err-check_made-clause-fault c = λ limit.
     let bodies = c.args.bodies.now in
     let v = c.index-bodies-0.result in
-    handed_on c.from_residual.result c.in_err-check_made.field-0.0 (IsFirstBad c.args.made.table c.as_slice.result.now) (IsLedgerFault c.args.made.table limit (bodies_of bodies))
-    (first_fault c.args.made.table limit c.as_slice.result.now (bodies_of bodies) (bodies_of (drop 1 bodies)) (with_first bodies v (nonzero (length bodies) (sym c.is_empty.ensures ∙ c.if-is_empty.false)) c.index-bodies-0.is ∙ ap (λ b. b ∷ bodies_of (drop 1 bodies)) (sym c.as_slice.ensures.value)))
+    handed_on c.args.made.who c.from_residual.result c.in_err-check_made.field-0.0 (IsFirstBad c.args.made.who c.args.made.table c.as_slice.result.now) (IsLedgerFault c.args.made.who c.args.made.table limit (bodies_of bodies))
+    (first_fault c.args.made.who c.args.made.table limit c.as_slice.result.now (bodies_of bodies) (bodies_of (drop 1 bodies)) (with_first bodies v (nonzero (length bodies) (sym c.is_empty.ensures ∙ c.if-is_empty.false)) c.index-bodies-0.is ∙ ap (λ b. b ∷ bodies_of (drop 1 bodies)) (sym c.as_slice.ensures.value)))
     c.from_residual.ensures.1 c.in_err-check_made.ensures.fault
 
 pub read_rest-requires-clause-few : goal.read_rest-requires-clause-few

@@ -24,16 +24,16 @@ returns-then-not-branch-clause-fault c =
     let i = c.loop-index.index in
     let v = c.index-bodies-index.result in
     let tells = c.in_ok-take_next.ensures.tells in
-    subst (IsOfBytes (IsLaterBad (bodies_of bodies))) (sym c.image_no.ensures) (
+    subst (IsOfBytes c.args.who (IsLaterBad c.args.who (bodies_of bodies))) (sym c.image_no.ensures) (
       refl,
-      later_bad bodies i v c.loop-index-test.true c.index-bodies-index.is c.loop-index.invariant.begun c.loop-index.invariant.base c.loop-index.invariant.order
+      later_bad bodies i v c.loop-index-test.true c.index-bodies-index.is c.args.who c.loop-index.invariant.begun c.loop-index.invariant.base c.loop-index.invariant.order
           (λ may. true≢false (sym (tells.1 (subst (λ b. MatchOption (all_of body.ledger b) ⊥ (MayFollow (told_by c.loop-index.seen))) (sym c.as_slice.ensures.value) (subst (λ p. MatchOption (all_of body.ledger v.items) ⊥ (MayFollow p)) (sym c.loop-index.invariant.told) may))) ∙ c.if-not-branch.true)),
     )
 
 pub loop-index-preserved : goal.loop-index-preserved
 loop-index-preserved c =
     let went = c.in_ok-take_next.ensures in
-    let next = keeps_on c.args.bodies.now c.loop-index.index c.index-bodies-index.result c.loop-index-test.true c.index-bodies-index.is _ c.as_slice.result.now c.loop-index.invariant.begun c.as_slice.ensures.value
+    let next = keeps_on c.args.bodies.now c.loop-index.index c.index-bodies-index.result c.loop-index-test.true c.index-bodies-index.is c.args.who _ c.as_slice.result.now c.loop-index.invariant.begun c.as_slice.ensures.value
     c.loop-index.invariant.base c.loop-index.invariant.told c.loop-index.invariant.order (went.tells.0 c.if-not-branch.false) in
     record {
       told = OnTrue_at c.if-not-branch.false went.taken ∙ next.0;

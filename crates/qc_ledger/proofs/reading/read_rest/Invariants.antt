@@ -9,7 +9,7 @@ use Rattle.qc_ledger.proofs.reading.read_rest.Given as goal
 abbrev pub invariant-loop-index : goal.invariant-loop-index
 invariant-loop-index l = record {
   told : told_by l.seen ≡ past_in (bodies_of (take l.index l.bodies));
-  order : AreInOrder (bodies_of (take l.index l.bodies));
+  order : AreInOrder l.who (bodies_of (take l.index l.bodies));
   begun : 1 ≤ l.index;
   base : base_in ledger_base (bodies_of (take l.index l.bodies)) ≡ base_in ledger_base (bodies_of l.bodies);
   numbers : HasNumbers l.seen;
