@@ -1,11 +1,10 @@
 -- Which fault of bodies is the first, and that it is handed on.
-use Rattle.std.proofs.Common.{◌≡◌, ℕ, ◌+◌, ◌<◌, ◌≤◌, List, [], ◌∷◌, refl, sym, ◌∙◌, subst, arith}
+use Rattle.std.proofs.Common.{◌≡◌, ℕ, ◌≤◌, List, [], ◌∷◌, refl, sym, ◌∙◌, subst}
 use Rattle.std.specs.Prelude.{Result, Ok, Err, IfErr, Option, IfSome, IsSome}
 use Rattle.std.specs.Result.{IsErrAnd, IsErrOf}
 use Rattle.qc_event.specs.declared.table.Table.{Table}
 use Rattle.qc_codec.specs.Bodies as body
 use Rattle.qc_codec.specs.Copy.{MayStand}
-use Rattle.qc_codec.specs.Ledger.{made_for}
 use Rattle.qc_codec.specs.declared.image.ImageFault.{ImageFault}
 use Rattle.qc_codec.specs.declared.image.ImageFault.TheVariants.{Broken, Grammar, Full, Table as OtherTable, Epoch}
 use Rattle.qc_codec.specs.declared.past.Past.{Past}
@@ -20,50 +19,45 @@ use Rattle.qc_ledger.specs.Refusing.{IsOfWriting}
 use Rattle.qc_ledger.proofs.Mounts.{first_told}
 use Rattle.qc_site.specs.Image.{AreMadeFor, IsCopyFault}
 use Rattle.qc_site.specs.Reading.{IsFirstBad, IsLaterBad}
-use Rattle.qc_site.specs.Refusing.{copy_mount_no, IsOfCopyImage, IsOfBytes, IsCopyRefusal}
+use Rattle.qc_site.specs.Refusing.{copy_mount_no, IsOfCopyImage, IsOfBytes}
 use Rattle.qc_event.specs.declared.short.Short.TheVariants as short
 use Rattle.qc_site.specs.declared.fault.SiteNo.{SiteNo}
 use Rattle.qc_site.specs.declared.fault.SiteNo.TheVariants.{Disk, Image, Strange, Short}
-
--- how a copy's disk was made has a body
-pub made_proper : (copy : ℕ) (table : Table) → copy < 16 → (body.table 1).fits table → body.made.fits (made_for (copy + 1) table)
-unfolding body.made body.making
-made_proper copy table few fits = ((omega (arith, few), fits), tt)
 
 -- a table has at most 16 copies
 pub few_copies : (table : Table) → (body.table 1).fits table → table.copies ≤ 16
 few_copies table fits = (table_sized table fits).copies
 
-module _ (copy : ℕ) where
+module _ (disk : ℕ) where
   -- HANDED ON
 
-  bytes_also : (P Q : ImageFault → Type 0) → ((f : ImageFault) → P f → Q f) → (fault : SiteNo) → IsOfBytes copy P fault → IsOfBytes copy Q fault
+  bytes_also : (P Q : ImageFault → Type 0) → ((f : ImageFault) → P f → Q f) → (fault : SiteNo) → IsOfBytes disk P fault → IsOfBytes disk Q fault
   bytes_also P Q also Disk is = is
   bytes_also P Q also (Image bad) is = (is.0, also bad.fault is.1)
   bytes_also P Q also Strange is = is
   bytes_also P Q also (Short short.Memory) is = tt
   bytes_also P Q also (Short short.Room) is = is
 
-  pub handed_on : {T : Type 0} (r : Result T SiteNo) (fault : SiteNo) (P Q : ImageFault → Type 0) → ((f : ImageFault) → P f → Q f) → IsErrAnd r (λ e. e ≡ fault) → IsOfBytes copy P fault → IfErr r (IsOfBytes copy Q)
+  pub handed_on : {T : Type 0} (r : Result T SiteNo) (fault : SiteNo) (P Q : ImageFault → Type 0) → ((f : ImageFault) → P f → Q f) → IsErrAnd r (λ e. e ≡ fault) → IsOfBytes disk P fault → IfErr r (IsOfBytes disk Q)
   handed_on (Ok x) fault P Q also same is = tt
-  handed_on (Err e) fault P Q also same is = subst (IsOfBytes copy Q) (sym same) (bytes_also P Q also fault is)
+  handed_on (Err e) fault P Q also same is = subst (IsOfBytes disk Q) (sym same) (bytes_also P Q also fault is)
 
-  image_of_bytes : (P Q : ImageFault → Type 0) → ((f : ImageFault) → P f → Q f) → (fault : SiteNo) → IsOfBytes copy P fault → IsOfCopyImage copy Q fault
+  image_of_bytes : (P Q : ImageFault → Type 0) → ((f : ImageFault) → P f → Q f) → (fault : SiteNo) → IsOfBytes disk P fault → IsOfCopyImage disk Q fault
   image_of_bytes P Q also Disk is = tt
   image_of_bytes P Q also (Image bad) is = (is.0, also bad.fault is.1)
   image_of_bytes P Q also Strange is = is
   image_of_bytes P Q also (Short short.Memory) is = tt
   image_of_bytes P Q also (Short short.Room) is = is
 
-  pub passed_on : {T : Type 0} (r : Result T SiteNo) (fault : SiteNo) (P Q : ImageFault → Type 0) → ((f : ImageFault) → P f → Q f) → IsErrAnd r (λ e. e ≡ fault) → IsOfBytes copy P fault → IfErr r (IsOfCopyImage copy Q)
+  pub passed_on : {T : Type 0} (r : Result T SiteNo) (fault : SiteNo) (P Q : ImageFault → Type 0) → ((f : ImageFault) → P f → Q f) → IsErrAnd r (λ e. e ≡ fault) → IsOfBytes disk P fault → IfErr r (IsOfCopyImage disk Q)
   passed_on (Ok x) fault P Q also same is = tt
-  passed_on (Err e) fault P Q also same is = subst (IsOfCopyImage copy Q) (sym same) (image_of_bytes P Q also fault is)
+  passed_on (Err e) fault P Q also same is = subst (IsOfCopyImage disk Q) (sym same) (image_of_bytes P Q also fault is)
 
-  pub no_disk : {T : Type 0} (r : Result T SiteNo) (fault : SiteNo) (P : ImageFault → Type 0) → IsErrAnd r (λ e. e ≡ fault) → IsOfBytes copy P fault → IsErrOf r Disk → ⊥
+  pub no_disk : {T : Type 0} (r : Result T SiteNo) (fault : SiteNo) (P : ImageFault → Type 0) → IsErrAnd r (λ e. e ≡ fault) → IsOfBytes disk P fault → IsErrOf r Disk → ⊥
   no_disk (Ok x) fault P same is of = absurd cc
-  no_disk (Err e) fault P same is of = let one : e ≡ Disk = cc in subst (IsOfBytes copy P) (sym same ∙ one) is
+  no_disk (Err e) fault P same is of = let one : e ≡ Disk = cc in subst (IsOfBytes disk P) (sym same ∙ one) is
 
-  image_also : (P Q : ImageFault → Type 0) → ((f : ImageFault) → P f → Q f) → (fault : SiteNo) → IsOfCopyImage copy P fault → IsOfCopyImage copy Q fault
+  image_also : (P Q : ImageFault → Type 0) → ((f : ImageFault) → P f → Q f) → (fault : SiteNo) → IsOfCopyImage disk P fault → IsOfCopyImage disk Q fault
   image_also P Q also Disk is = tt
   image_also P Q also (Image bad) is = (is.0, also bad.fault is.1)
   image_also P Q also Strange is = is
@@ -71,7 +65,7 @@ module _ (copy : ℕ) where
   image_also P Q also (Short short.Room) is = is
 
   -- a fault of writing is that there is no room, or one of the disk or the memory
-  pub write_refusal : (P : ImageFault → Type 0) (fault : Fault) → IsOfWriting fault → ((place : ℕ) → fault ≡ journal.Full place → P (Full place)) → IsOfCopyImage copy P (copy_mount_no copy fault)
+  pub write_refusal : (P : ImageFault → Type 0) (fault : Fault) → IsOfWriting fault → ((place : ℕ) → fault ≡ journal.Full place → P (Full place)) → IsOfCopyImage disk P (copy_mount_no disk fault)
   write_refusal P journal.Disk of full = tt
   write_refusal P (journal.Broken place) of full = absurd of
   write_refusal P (journal.Full place) of full = (refl, full place refl)
@@ -80,25 +74,29 @@ module _ (copy : ℕ) where
   -- THE FIRST
 
   module _ (table : Table) (past : Past) (limit : ℕ) where
-    pub first_fault : (first : List ℕ) (bodies rest : List (List ℕ)) → bodies ≡ first ∷ rest → (f : ImageFault) → IsFirstBad copy table past first f → IsCopyFault copy table past limit bodies f
+    pub first_fault : (first : List ℕ) (bodies rest : List (List ℕ)) → bodies ≡ first ∷ rest → (f : ImageFault) → IsFirstBad disk table past first f → IsCopyFault disk table past limit bodies f
     first_fault first bodies rest is (Broken place) bad = bad
     first_fault first bodies rest is (Grammar index) bad = (
-      record { before = []; after = rest; item = first; split = is; size = bad.0; order = each_none (MayStand copy table past); breaks = bad.1 },
+      record { before = []; after = rest; item = first; split = is; size = bad.0; order = each_none (MayStand disk table past); breaks = bad.1 },
       λ other. absurd (other bad.0),
     )
     first_fault first bodies rest is (Full place) bad = absurd bad
-    first_fault first bodies rest is (OtherTable kept asked) bad = (bad.0, bad.1, (λ none. let two : first ∷ rest ≡ [] = sym is ∙ none in absurd cc), subst (AreMadeFor copy kept) (sym is) bad.2)
+    first_fault first bodies rest is (OtherTable kept asked) bad = (bad.0, bad.1, (λ none. let two : first ∷ rest ≡ [] = sym is ∙ none in absurd cc), subst (AreMadeFor disk kept) (sym is) bad.2)
     first_fault first bodies rest is (Epoch epoch) bad = bad
 
-    pub later_fault : (bodies : List (List ℕ)) → AreMadeFor copy table bodies → (f : ImageFault) → IsLaterBad copy table past bodies f → IsCopyFault copy table past limit bodies f
+    pub later_fault : (bodies : List (List ℕ)) → AreMadeFor disk table bodies → (f : ImageFault) → IsLaterBad disk table past bodies f → IsCopyFault disk table past limit bodies f
     later_fault bodies made (Broken place) bad = bad
     later_fault bodies made (Grammar index) bad = (bad.1, λ other. made)
     later_fault bodies made (Full place) bad = absurd bad
     later_fault bodies made (OtherTable kept asked) bad = absurd bad
     later_fault bodies made (Epoch epoch) bad = bad
 
+    -- a fault is the first of the image that is told
+    abbrev IsFirstOf : Option (List ℕ) → ImageFault → Type 0
+    IsFirstOf told f = IfSome told (IsFirstFault (IsCopyFault disk table past limit) f)
+
     -- the journal's fault is the image's first
-    pub mount_refusal : (told : Option (List ℕ)) (fault : Fault) → IsOfReading fault → ((place : ℕ) → fault ≡ journal.Broken place → IfSome told (IsBroken place)) → IsCopyRefusal copy table past limit told (copy_mount_no copy fault)
+    pub mount_refusal : (told : Option (List ℕ)) (fault : Fault) → IsOfReading fault → ((place : ℕ) → fault ≡ journal.Broken place → IfSome told (IsBroken place)) → IsOfCopyImage disk (IsFirstOf told) (copy_mount_no disk fault)
     mount_refusal told journal.Disk of broken = tt
     mount_refusal told (journal.Broken place) of broken = (refl, broken place refl)
     mount_refusal told (journal.Full place) of broken = absurd of
@@ -106,7 +104,7 @@ module _ (copy : ℕ) where
 
     -- a fault of the bodies is the image's first
     pub begin_refusal : (K : Type 0) (told : Option (List ℕ)) (kept : ℕ) (bodies : List (List ℕ)) → kept ≡ limit → IfSome told (HasRecords bodies) → (IsSome told → K) → (fault : SiteNo)
-        → IsOfCopyImage copy (λ f. K → IsCopyFault copy table past kept bodies f) fault → IsCopyRefusal copy table past limit told fault
+        → IsOfCopyImage disk (λ f. K → IsCopyFault disk table past kept bodies f) fault → IsOfCopyImage disk (IsFirstOf told) fault
     begin_refusal K told kept bodies same has keeps refused is =
-        image_also (λ f. K → IsCopyFault copy table past kept bodies f) (λ f. IfSome told (IsFirstFault (IsCopyFault copy table past limit) f))
-        (λ f at. first_told (IsCopyFault copy table past limit) bodies (λ place broken. broken) told f has (λ some. subst (λ n. IsCopyFault copy table past n bodies f) same (at (keeps some)))) refused is
+        image_also (λ f. K → IsCopyFault disk table past kept bodies f) (IsFirstOf told)
+        (λ f at. first_told (IsCopyFault disk table past limit) bodies (λ place broken. broken) told f has (λ some. subst (λ n. IsCopyFault disk table past n bodies f) same (at (keeps some)))) refused is

@@ -1,7 +1,9 @@
 mod Accesses
 mod GrantFits
+mod HeldFits
 mod Rests
 mod Faults
+mod PairMounts
 mod Rows
 mod Backs
 mod Places
@@ -11,5 +13,6 @@ mod Again
 mod Found
 mod Logs
 mod Refusals
+mod Checkpoints
 pub mod Since
 pub mod Calls

@@ -115,11 +115,11 @@ short_not want other (Ok x) apart is failed = absurd cc
 short_not want other (Err e) apart is failed = let one : e ≡ other = cc in apart (sym is ∙ one)
 
 -- what is handed on is a refusal where that is what is handed
-pub same_refusal : {T S : Type 0} (r : Result T ServeNo) (refusal other : ServeNo) → IsErrAnd r (λ e. e ≡ refusal) → IsErrOf r other → IsErrOf {T = S} (Err refusal) other
+pub same_refusal : {T S E : Type 0} (r : Result T E) (refusal other : E) → IsErrAnd r (λ e. e ≡ refusal) → IsErrOf r other → IsErrOf {T = S} (Err refusal) other
 same_refusal (Ok x) refusal other is failed = absurd cc
 same_refusal (Err e) refusal other is failed = let one : e ≡ other = cc in ap (λ x. Err x) (sym is ∙ one)
 
-pub handed_refusal : {T S : Type 0} (r : Result T ServeNo) (refusal other : ServeNo) → IsErrAnd r (λ e. e ≡ refusal) → IsErrOf {T = S} (Err refusal) other → IsErrOf r other
+pub handed_refusal : {T S E : Type 0} (r : Result T E) (refusal other : E) → IsErrAnd r (λ e. e ≡ refusal) → IsErrOf {T = S} (Err refusal) other → IsErrOf r other
 handed_refusal (Ok x) refusal other is failed = absurd is
 handed_refusal (Err e) refusal other is failed = let one : refusal ≡ other = cc in ap (λ x. Err x) (is ∙ one)
 

@@ -6,14 +6,17 @@ use Rattle.std.specs.Option.{option_and_then}
 use Rattle.std.specs.declared.alloc.Global.{Global}
 use Rattle.std.proofs.lemmas.Bool.{eqb-true}
 use Rattle.std.proofs.lemmas.List.Elements.{filter_map-append}
+use Rattle.qc_config.specs.declared.tuple.Tuple.{Tuple}
+use Rattle.qc_desk.specs.Held.{from_row}
 use Rattle.qc_event.specs.declared.event.Grant.{Grant}
 use Rattle.qc_event.specs.declared.table.Table.{Table}
-use Rattle.qc_codec.specs.Base.{base_in, copy_base, epoch_of_base}
+use Rattle.qc_codec.specs.Base.{base_in, copy_base, epoch_of_base, tuples_of_base}
 use Rattle.qc_codec.specs.Bodies as body
 use Rattle.qc_codec.specs.Copy.{grant_form, AreInOrder, IsMadeOf, IsNextBody, MayFollow, MayStand}
 use Rattle.qc_codec.specs.Fields.{format_1}
 use Rattle.qc_codec.specs.Form.{Form, all_of, marked}
 use Rattle.qc_codec.specs.Ledger.{made_for, readings}
+use Rattle.qc_codec.specs.Restored.{restored_row}
 use Rattle.qc_codec.specs.declared.image.ImageFault.TheVariants.{Grammar}
 use Rattle.qc_codec.specs.declared.past.Past.{Past}
 use Rattle.qc_codec.specs.declared.record.BaseRecord.{BaseRecord}
@@ -76,60 +79,60 @@ second_no_grant table first second b is = by (all_of body.made first) is
     by None none = absurd cc
     by (Some m) read = base_no_grant m.table table second b read
 
-module _ (copy : ℕ) (table : Table) where
+module _ (disk : ℕ) (table : Table) where
   -- it is read by the table
-  pub second_read : (bodies : List (Vec ℕ Global)) (v : Vec ℕ Global) → 1 < length bodies → v ≡ get_or bodies 1 v → AreMadeFor copy table (bodies_of bodies) → base_in copy_base (bodies_of bodies) ≡ all_of (copy_base table) v.items
+  pub second_read : (bodies : List (Vec ℕ Global)) (v : Vec ℕ Global) → 1 < length bodies → v ≡ get_or bodies 1 v → AreMadeFor disk table (bodies_of bodies) → base_in copy_base (bodies_of bodies) ≡ all_of (copy_base table) v.items
   second_read [] v within is made = absurd (omega (arith, within))
   second_read (first ∷ []) v within is made = absurd (omega (arith, within))
   second_read (first ∷ second ∷ bodies) v within is made =
       ap (option_and_then (λ (m : Made). all_of (copy_base m.table) second.items)) made ∙ ap (λ (w : Vec ℕ Global). all_of (copy_base table) w.items) (sym is)
 
   -- what a mounting writes is none
-  pub written_base : (found : List (List ℕ)) → base_in copy_base (found ++ to_write copy table found) ≡ base_in copy_base found
+  pub written_base : (found : List (List ℕ)) → base_in copy_base (found ++ to_write disk table found) ≡ base_in copy_base found
   written_base [] = refl
   written_base (first ∷ bodies) = ap (base_in copy_base) (append-nil (first ∷ bodies))
 
 -- THE FIRST BODIES
 
-module _ (copy : ℕ) (table : Table) (past : Past) where
+module _ (disk : ℕ) (table : Table) (past : Past) where
   -- how the disk was made may stand first
-  pub made_stands : (bytes : List ℕ) (kept : Table) → all_of body.made bytes ≡ Some (made_for (copy + 1) kept) → MayStand copy table past [] bytes
-  made_stands bytes kept is = subst (λ (o : Option Made). MatchOption o ⊥ (IsMadeOf copy)) (sym is) refl
+  pub made_stands : (bytes : List ℕ) (kept : Table) → all_of body.made bytes ≡ Some (made_for disk kept) → MayStand disk table past [] bytes
+  made_stands bytes kept is = subst (λ (o : Option Made). MatchOption o ⊥ (IsMadeOf disk)) (sym is) refl
 
-  made_no_grant : (bytes : List ℕ) → MayStand copy table past [] bytes → all_of (grant_form table) bytes ≡ None
+  made_no_grant : (bytes : List ℕ) → MayStand disk table past [] bytes → all_of (grant_form table) bytes ≡ None
   made_no_grant bytes may = ⊎_elim
-      (λ none. absurd (subst (λ (o : Option Made). MatchOption o ⊥ (IsMadeOf copy)) none may))
+      (λ none. absurd (subst (λ (o : Option Made). MatchOption o ⊥ (IsMadeOf disk)) none may))
       (λ none. none)
       (made_or_granted table bytes)
 
-  made_tells_none : (bytes : List ℕ) → MayStand copy table past [] bytes → readings (grant_form table) (bytes ∷ []) ≡ []
+  made_tells_none : (bytes : List ℕ) → MayStand disk table past [] bytes → readings (grant_form table) (bytes ∷ []) ≡ []
   made_tells_none bytes may = ap (λ (o : Option Grant). cons_option o []) (made_no_grant bytes may)
 
-  alone : (bytes : List ℕ) → MayStand copy table past [] bytes → AreInOrder copy table past (bytes ∷ [])
-  alone bytes may = each_push (MayStand copy table past) [] bytes (each_none (MayStand copy table past)) may
+  alone : (bytes : List ℕ) → MayStand disk table past [] bytes → AreInOrder disk table past (bytes ∷ [])
+  alone bytes may = each_push (MayStand disk table past) [] bytes (each_none (MayStand disk table past)) may
 
   -- So many bodies stand in front of the grants.
   pub record HasBegun (base : Option BaseRecord) (bodies : List (Vec ℕ Global)) (n : ℕ) : Type 0 where
     pub told : readings (grant_form table) (bodies_of (take n bodies)) ≡ []
-    pub order : AreInOrder copy table past (bodies_of (take n bodies))
+    pub order : AreInOrder disk table past (bodies_of (take n bodies))
     pub based : base_in copy_base (bodies_of (take n bodies)) ≡ base
     pub some : 1 ≤ n
 
-  pub begun : (base : Option BaseRecord) (bodies : List (Vec ℕ Global)) → 0 < length bodies → MayStand copy table past [] (slice_index_or (bodies_of bodies) 0 []) → base ≡ base_in copy_base (bodies_of bodies) → epoch_of_base base ≤ past.epoch
+  pub begun : (base : Option BaseRecord) (bodies : List (Vec ℕ Global)) → 0 < length bodies → MayStand disk table past [] (slice_index_or (bodies_of bodies) 0 []) → base ≡ base_in copy_base (bodies_of bodies) → epoch_of_base base ≤ past.epoch
       → HasBegun base bodies (if is_some base then 2 else 1)
   begun base [] some may is old = absurd (omega (arith, some))
   begun None (v ∷ bodies) some may is old = record { told = made_tells_none v.items may; order = alone v.items may; based = refl; some = omega arith }
   begun (Some b) (v ∷ []) some may is old = absurd cc
   begun (Some b) (v ∷ w ∷ bodies) some may is old = record {
     told = ap₂ (λ (o p : Option Grant). cons_option o (cons_option p [])) (made_no_grant v.items may) (second_no_grant table v.items w.items b (sym is));
-    order = each_push (MayStand copy table past) (v.items ∷ []) w.items (alone v.items may) (inl (subst (λ (o : Option BaseRecord). MatchOption o ⊥ (λ (x : BaseRecord). x.epoch ≤ past.epoch)) is old));
+    order = each_push (MayStand disk table past) (v.items ∷ []) w.items (alone v.items may) (inl (subst (λ (o : Option BaseRecord). MatchOption o ⊥ (λ (x : BaseRecord). x.epoch ≤ past.epoch)) is old));
     based = sym is;
     some = omega arith;
   }
 
   -- a base of a later epoch is the first fault
-  pub second_bad : (bodies : List (Vec ℕ Global)) (v : Vec ℕ Global) → 1 < length bodies → v ≡ get_or bodies 1 v → AreMadeFor copy table (bodies_of bodies) → (b : BaseRecord) → all_of (copy_base table) v.items ≡ Some b → (b.epoch ≤ past.epoch → ⊥)
-      → IsLaterBad copy table past (bodies_of bodies) (Grammar 1)
+  pub second_bad : (bodies : List (Vec ℕ Global)) (v : Vec ℕ Global) → 1 < length bodies → v ≡ get_or bodies 1 v → AreMadeFor disk table (bodies_of bodies) → (b : BaseRecord) → all_of (copy_base table) v.items ≡ Some b → (b.epoch ≤ past.epoch → ⊥)
+      → IsLaterBad disk table past (bodies_of bodies) (Grammar 1)
   second_bad [] v within is made b read late = absurd (omega (arith, within))
   second_bad (first ∷ []) v within is made b read late = absurd (omega (arith, within))
   second_bad (first ∷ second ∷ bodies) v within is made b read late = (
@@ -146,32 +149,42 @@ module _ (copy : ℕ) (table : Table) (past : Past) where
   )
     where
       based : base_in copy_base (first.items ∷ second.items ∷ []) ≡ Some b
-      based = second_read copy table (first ∷ second ∷ bodies) v within is made ∙ read
+      based = second_read disk table (first ∷ second ∷ bodies) v within is made ∙ read
 
-      never : MayStand copy table past (first.items ∷ []) second.items → ⊥
+      never : MayStand disk table past (first.items ∷ []) second.items → ⊥
       never (inl old) = late (subst (λ (o : Option BaseRecord). MatchOption o ⊥ (λ (x : BaseRecord). x.epoch ≤ past.epoch)) based old)
       never (inr may) = subst (λ (o : Option Grant). MatchOption o ⊥ (MayFollow table past 0 [])) (second_no_grant table first.items second.items b based)
           (subst (λ (gs : List Grant). MatchOption (all_of (grant_form table) second.items) ⊥ (MayFollow table past 0 gs)) (made_tells_none first.items (made_stands first.items table made)) may)
 
   -- what a mounting writes grants nothing
-  pub written_none : (fits : body.made.fits (made_for (copy + 1) table)) (found : List (List ℕ)) → readings (grant_form table) (found ++ to_write copy table found) ≡ readings (grant_form table) found
-  written_none fits [] = made_tells_none (made_body copy table) (made_stands (made_body copy table) table (all_again body.made exact_made (made_for (copy + 1) table) fits))
+  pub written_none : (fits : body.made.fits (made_for disk table)) (found : List (List ℕ)) → readings (grant_form table) (found ++ to_write disk table found) ≡ readings (grant_form table) found
+  written_none fits [] = made_tells_none (made_body disk table) (made_stands (made_body disk table) table (all_again body.made exact_made (made_for disk table) fits))
   written_none fits (first ∷ bodies) = ap (readings (grant_form table)) (append-nil (first ∷ bodies))
+
+  -- what a copy starts with is told by all of its records
+  pub start_told : (fits : body.made.fits (made_for disk table)) (found records : List (List ℕ)) → records ≡ found ++ to_write disk table found → (start : List Tuple)
+      → start ≡ restored_row past.tops (length table.records) (from_row (tuples_of_base table (base_in copy_base found))) (readings (grant_form table) found)
+      → start ≡ restored_row past.tops (length table.records) (from_row (tuples_of_base table (base_in copy_base records))) (readings (grant_form table) records)
+  start_told fits found records all start is =
+      is
+      ∙ ap₂ (λ (base : Option BaseRecord) (gs : List Grant). restored_row past.tops (length table.records) (from_row (tuples_of_base table base)) gs)
+      (sym (written_base disk table found) ∙ ap (base_in copy_base) (sym all))
+      (sym (written_none fits found) ∙ ap (readings (grant_form table)) (sym all))
 
   -- BODIES BEHIND THEM
 
-  stands_by : (bodies : List (List ℕ)) (bytes : List ℕ) → 0 < length bodies → IsNextBody copy table past bodies bytes → MayStand copy table past bodies bytes
+  stands_by : (bodies : List (List ℕ)) (bytes : List ℕ) → 0 < length bodies → IsNextBody disk table past bodies bytes → MayStand disk table past bodies bytes
   stands_by [] bytes some may = absurd (omega (arith, some))
   stands_by (first ∷ []) bytes some may = inr may
   stands_by (first ∷ second ∷ bodies) bytes some may = may
 
-  by_stands : (bodies : List (List ℕ)) (bytes : List ℕ) → 0 < length bodies → base_in copy_base (bodies ++ bytes ∷ []) ≡ base_in copy_base bodies → MayStand copy table past bodies bytes → IsNextBody copy table past bodies bytes
+  by_stands : (bodies : List (List ℕ)) (bytes : List ℕ) → 0 < length bodies → base_in copy_base (bodies ++ bytes ∷ []) ≡ base_in copy_base bodies → MayStand disk table past bodies bytes → IsNextBody disk table past bodies bytes
   by_stands [] bytes some same may = absurd (omega (arith, some))
   by_stands (first ∷ []) bytes some same (inl old) = absurd (subst (λ (o : Option BaseRecord). MatchOption o ⊥ (λ (x : BaseRecord). x.epoch ≤ past.epoch)) same old)
   by_stands (first ∷ []) bytes some same (inr may) = may
   by_stands (first ∷ second ∷ bodies) bytes some same may = may
 
-  module _ (bodies : List (Vec ℕ Global)) (i : ℕ) (v : Vec ℕ Global) (within : i < length bodies) (is : v ≡ get_or bodies i v) (some : 1 ≤ i) (order : AreInOrder copy table past (bodies_of (take i bodies)))
+  module _ (bodies : List (Vec ℕ Global)) (i : ℕ) (v : Vec ℕ Global) (within : i < length bodies) (is : v ≡ get_or bodies i v) (some : 1 ≤ i) (order : AreInOrder disk table past (bodies_of (take i bodies)))
       (base : Option BaseRecord) (whole : base ≡ base_in copy_base (bodies_of bodies)) (based : base_in copy_base (bodies_of (take i bodies)) ≡ base) (epoch : ℕ) (of_base : epoch ≡ epoch_of_base base) where
     abbrev so_far : List (List ℕ)
     so_far = bodies_of (take i bodies)
@@ -184,7 +197,7 @@ module _ (copy : ℕ) (table : Table) (past : Past) where
     same_epoch = of_base ∙ ap epoch_of_base (sym based)
 
     -- a body that may not stand behind those before it is the first fault
-    pub later_bad : (MatchOption (all_of (grant_form table) v.items) ⊥ (MayFollow table past epoch (readings (grant_form table) so_far)) → ⊥) → IsLaterBad copy table past (bodies_of bodies) (Grammar i)
+    pub later_bad : (MatchOption (all_of (grant_form table) v.items) ⊥ (MayFollow table past epoch (readings (grant_form table) so_far)) → ⊥) → IsLaterBad disk table past (bodies_of bodies) (Grammar i)
     later_bad never = (
       (λ none. omega (arith, some, none)),
       record {
@@ -201,11 +214,11 @@ module _ (copy : ℕ) (table : Table) (past : Past) where
 
     -- a body that may stand behind those before it
     pub keeps_on : (given : List Grant) (bytes : List ℕ) → bytes ≡ v.items → given ≡ readings (grant_form table) so_far → MatchOption (all_of (grant_form table) bytes) ⊥ (MayFollow table past epoch given)
-        → (given ++ readings (grant_form table) (bytes ∷ []) ≡ readings (grant_form table) (bodies_of (take (i + 1) bodies))) × AreInOrder copy table past (bodies_of (take (i + 1) bodies))
+        → (given ++ readings (grant_form table) (bytes ∷ []) ≡ readings (grant_form table) (bodies_of (take (i + 1) bodies))) × AreInOrder disk table past (bodies_of (take (i + 1) bodies))
     keeps_on given bytes same told may =
         let follows = subst (λ n. MatchOption (all_of (grant_form table) bytes) ⊥ (MayFollow table past n given)) same_epoch may in
         let stands = stands_by so_far bytes (omega (arith, some, so_many bodies i v within is)) (subst (λ (gs : List Grant). MatchOption (all_of (grant_form table) bytes) ⊥ (MayFollow table past (epoch_of_base (base_in copy_base so_far)) gs)) told follows) in
         let all : so_far ++ bytes ∷ [] ≡ bodies_of (take (i + 1) bodies) = ap (λ (b : List ℕ). so_far ++ b ∷ []) same ∙ sym (one_more bodies i v within is) in (
           ap (λ (gs : List Grant). gs ++ readings (grant_form table) (bytes ∷ [])) told ∙ sym (filter_map-append (all_of (grant_form table)) so_far (bytes ∷ [])) ∙ ap (readings (grant_form table)) all,
-          subst (AreInOrder copy table past) all (each_push (MayStand copy table past) so_far bytes order stands),
+          subst (AreInOrder disk table past) all (each_push (MayStand disk table past) so_far bytes order stands),
         )

@@ -1,5 +1,5 @@
 -- The first fault of the image of a copy's disk, and what a mounting writes behind what it finds.
-use Rattle.std.specs.Prelude.{ℕ, ◌≡◌, ◌≢◌, ◌+◌, List, [], ◌∷◌, Some}
+use Rattle.std.specs.Prelude.{ℕ, ◌≡◌, ◌≢◌, List, [], ◌∷◌, Some}
 use Rattle.qc_event.specs.declared.table.Table.{Table}
 use Rattle.qc_codec.specs.Bodies as body
 use Rattle.qc_codec.specs.Copy.{AreInOrder, IsOutOfOrder}
@@ -10,34 +10,34 @@ use Rattle.qc_codec.specs.declared.image.ImageFault.TheVariants.{Broken, Grammar
 use Rattle.qc_codec.specs.declared.past.Past.{Past}
 use Rattle.qc_ledger.specs.Image.{made_where_none, IsFull}
 
--- the body that says that a copy's disk was made for a table
+-- the body that says that a disk of a copy's was made for a table
 abbrev pub made_body : ℕ → Table → List ℕ
-made_body copy table = body.made.spell (made_for (copy + 1) table)
+made_body disk table = body.made.spell (made_for disk table)
 
 -- what a mounting writes behind these bodies: how the disk was made, where there are none
 abbrev pub to_write : ℕ → Table → List (List ℕ) → List (List ℕ)
-to_write copy table bodies = made_where_none (made_body copy table) bodies
+to_write disk table bodies = made_where_none (made_body disk table) bodies
 
--- the first of these bodies, where there is one, says that a copy's disk was made for a table
+-- the first of these bodies, where there is one, says that a disk of a copy's was made for a table
 abbrev pub AreMadeFor : ℕ → Table → List (List ℕ) → Type 0
-AreMadeFor copy table [] = Unit {0}
-AreMadeFor copy table (first ∷ bodies) = all_of body.made first ≡ Some (made_for (copy + 1) table)
+AreMadeFor disk table [] = Unit {0}
+AreMadeFor disk table (first ∷ bodies) = all_of body.made first ≡ Some (made_for disk table)
 
--- Bodies are a copy's for a table, in order behind a ledger's past.
-pub record AreGranted (copy : ℕ) (table : Table) (past : Past) (bodies : List (List ℕ)) : Type 0 where
-  pub made : AreMadeFor copy table bodies
-  pub order : AreInOrder copy table past bodies
+-- Bodies are those of a disk of a copy's for a table, in order behind a ledger's past.
+pub record AreGranted (disk : ℕ) (table : Table) (past : Past) (bodies : List (List ℕ)) : Type 0 where
+  pub made : AreMadeFor disk table bodies
+  pub order : AreInOrder disk table past bodies
 
-module _ (copy : ℕ) (table : Table) (past : Past) (limit : ℕ) where
+module _ (disk : ℕ) (table : Table) (past : Past) (limit : ℕ) where
   -- the first fault that bodies have
   abbrev pub IsCopyFault : List (List ℕ) → ImageFault → Type 0
   IsCopyFault bodies (Broken place) = ⊥
-  IsCopyFault bodies (Grammar index) = IsOutOfOrder copy table past index bodies × (index ≢ 0 → AreMadeFor copy table bodies)
-  IsCopyFault bodies (OtherTable kept asked) = (asked ≡ table) × (kept ≢ table) × (bodies ≢ []) × AreMadeFor copy kept bodies
+  IsCopyFault bodies (Grammar index) = IsOutOfOrder disk table past index bodies × (index ≢ 0 → AreMadeFor disk table bodies)
+  IsCopyFault bodies (OtherTable kept asked) = (asked ≡ table) × (kept ≢ table) × (bodies ≢ []) × AreMadeFor disk kept bodies
   IsCopyFault bodies (Epoch epoch) = ⊥
-  IsCopyFault bodies (Full place) = AreGranted copy table past bodies × IsFull limit bodies (to_write copy table bodies) place
+  IsCopyFault bodies (Full place) = AreGranted disk table past bodies × IsFull limit bodies (to_write disk table bodies) place
 
   -- Bodies have no fault, and what a mounting writes fits behind them.
   pub record AreMountableAsCopy (bodies : List (List ℕ)) : Type 0 where
-    pub granted : AreGranted copy table past bodies
-    pub room : (place : ℕ) → IsFull limit bodies (to_write copy table bodies) place → ⊥
+    pub granted : AreGranted disk table past bodies
+    pub room : (place : ℕ) → IsFull limit bodies (to_write disk table bodies) place → ⊥

@@ -3,6 +3,7 @@ pub mod Image
 pub mod Reading
 pub mod Refusing
 pub mod Mounted
+pub mod Pairs
 pub mod Start
 pub mod Back
 pub mod Places
@@ -14,3 +15,4 @@ pub mod Sites
 pub mod Serving
 pub mod Since
 pub mod Calls
+pub mod Checkpoint

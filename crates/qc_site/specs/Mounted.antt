@@ -24,13 +24,13 @@ journal_of site = site.journal
 abbrev pub records_of : {D : Type 0} {g : Ghosts D} → Mounted D g → List (List ℕ)
 records_of site = bodies_of site.bodies.items
 
--- Bodies were found, which are a copy's in order behind a past. A disk that tells its bytes has them, without a fault.
+-- Bodies were found, which are those of a disk of a copy's in order behind a past. A disk that tells its bytes has them, without a fault.
 -- What a mounting writes stands behind them.
-pub record MountsCopy (copy : ℕ) (table : Table) (past : Past) (limit : ℕ) (told : Option (List ℕ)) (records : List (List ℕ)) : Type 0 where
+pub record MountsCopy (disk : ℕ) (table : Table) (past : Past) (limit : ℕ) (told : Option (List ℕ)) (records : List (List ℕ)) : Type 0 where
   pub found : List (List ℕ)
-  pub granted : AreGranted copy table past found
-  pub fine : IfSome told (λ bytes. HasRecords found bytes × AreMountableAsCopy copy table past limit found)
-  pub all : records ≡ found ++ to_write copy table found
+  pub granted : AreGranted disk table past found
+  pub fine : IfSome told (λ bytes. HasRecords found bytes × AreMountableAsCopy disk table past limit found)
+  pub all : records ≡ found ++ to_write disk table found
 
 -- the disk of a copy that was mounted, or that was handed back
 abbrev pub disk_after : {D : Type 0} {g : Ghosts D} → Result (Mounted D g) (D × SiteNo) → D

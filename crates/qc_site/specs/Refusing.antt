@@ -12,10 +12,10 @@ use Rattle.qc_site.specs.Image.{IsCopyFault}
 use Rattle.qc_site.specs.declared.fault.SiteNo.{SiteNo}
 use Rattle.qc_site.specs.declared.fault.SiteNo.TheVariants.{Disk, Image, Strange, Short}
 
-module _ (copy : ℕ) where
-  -- the image of a copy's disk is refused
+module _ (disk : ℕ) where
+  -- the image of a disk of a copy's is refused
   abbrev pub image_no : ImageFault → SiteNo
-  image_no f = Image (record { disk = copy + 1; fault = f })
+  image_no f = Image (record { disk = disk; fault = f })
 
   -- what a fault of the journal is to a mounting
   abbrev pub copy_mount_no : Fault → SiteNo
@@ -24,22 +24,22 @@ module _ (copy : ℕ) where
   copy_mount_no (fault.Full place) = image_no (image.Full place)
   copy_mount_no fault.Memory = Short Memory
 
-  -- a fault of the image of the copy's disk, of which this holds; or of the disk or the memory
+  -- a fault of the disk's image, of which this holds; or of the disk or the memory
   abbrev pub IsOfCopyImage : (ImageFault → Type 0) → SiteNo → Type 0
   IsOfCopyImage P Disk = Unit {0}
-  IsOfCopyImage P (Image bad) = (bad.disk ≡ copy + 1) × P bad.fault
+  IsOfCopyImage P (Image bad) = (bad.disk ≡ disk) × P bad.fault
   IsOfCopyImage P Strange = ⊥
   IsOfCopyImage P (Short Memory) = Unit {0}
   IsOfCopyImage P (Short Room) = ⊥
 
-  -- a fault of the image of the copy's disk, of which this holds; or of the memory
+  -- a fault of the disk's image, of which this holds; or of the memory
   abbrev pub IsOfBytes : (ImageFault → Type 0) → SiteNo → Type 0
   IsOfBytes P Disk = ⊥
-  IsOfBytes P (Image bad) = (bad.disk ≡ copy + 1) × P bad.fault
+  IsOfBytes P (Image bad) = (bad.disk ≡ disk) × P bad.fault
   IsOfBytes P Strange = ⊥
   IsOfBytes P (Short Memory) = Unit {0}
   IsOfBytes P (Short Room) = ⊥
 
 -- a mounting may be refused: for the first fault of the image that is told, for the disk, or for memory
 abbrev pub IsCopyRefusal : ℕ → Table → Past → ℕ → Option (List ℕ) → SiteNo → Type 0
-IsCopyRefusal copy table past limit told refusal = IsOfCopyImage copy (λ f. IfSome told (IsFirstFault (IsCopyFault copy table past limit) f)) refusal
+IsCopyRefusal copy table past limit told refusal = IsOfCopyImage (copy + 1) (λ f. IfSome told (IsFirstFault (IsCopyFault (copy + 1) table past limit) f)) refusal

@@ -1,5 +1,5 @@
-//! Why what a copy grants fits the form in which it is written.
-ghost use Rattle.std.specs.Prelude.{ℕ, ◌≡◌, ◌<◌, ◌^◌, length, slice_index};
+//! Why what a copy grants, and what it holds, fits the form in which it is written.
+ghost use Rattle.std.specs.Prelude.{ℕ, ◌≡◌, ◌<◌, ◌^◌, [], All, length, slice_index, slice_index_or};
 ghost use Rattle.qc_config.specs.Config.{votes_of};
 ghost use Rattle.qc_config.specs.Tuple.{after};
 ghost use Rattle.qc_event.specs.Base.{IsProper};
@@ -8,7 +8,9 @@ ghost use Rattle.qc_event.specs.Seen.{seen};
 ghost use Rattle.qc_event.specs.Tables.{setting_of};
 ghost use Rattle.qc_event.specs.Grants.{grant_with};
 ghost use Rattle.qc_desk.specs.Consulting.{HasAsked};
+ghost use Rattle.qc_desk.specs.Held.{held_row};
 ghost use Rattle.qc_codec.specs.Bodies as body;
+ghost use Rattle.qc_codec.specs.Fields as field;
 ghost use Rattle.qc_codec.specs.Fields.{format_1};
 
 use qc_config::{Config, Tuple};
@@ -50,4 +52,18 @@ pub(crate) fn known_to_fit<N: Store>(pass: &Pass<N>, copies: u8, ask: &Ask, tupl
     config_in_range(&tuple.config);
     let _rec = ask.rec;
     let (_version, _value, _generation) = (tuple.version, tuple.value, tuple.generation);
+}
+
+/// What a copy holds of each record, by what a pass has seen, fits the form in which a base has it. This reads each tuple,
+/// and does nothing else.
+pub(crate) fn held_to_fit<N: Store>(pass: &Pass<N>, copy: u8, held: &[Tuple])
+    requires proper { IsProper (setting_of N.table N.base) }
+    requires legal { Legal (setting_of N.table N.base) pass.now.seen }
+    requires held { held.now ≡ held_row (slice_index_or N.base copy []) pass.now.seen copy }
+    ensures fits { All (field.tuple (format_1 (length N.base))).fits held.now }
+{
+    for tuple in held {
+        config_in_range(&tuple.config);
+        let (_version, _value, _generation) = (tuple.version, tuple.value, tuple.generation);
+    }
 }

@@ -10,20 +10,20 @@ ghost use Rattle.qc_site.specs.Image.{IsCopyFault, AreMountableAsCopy};
 /// The bodies of a copy's records have at most one first fault, and none where they can be mounted. So has an image.
 /// What `mount` answers is then the one fault that there is.
 pub fn one_verdict()
-    ensures one { (copy : ℕ) (table : Table) (past : Past) (limit : ℕ)
+    ensures one { (disk : ℕ) (table : Table) (past : Past) (limit : ℕ)
         → (bodies : List (List ℕ)) (fault other : ImageFault)
-        → IsCopyFault copy table past limit bodies fault → IsCopyFault copy table past limit
+        → IsCopyFault disk table past limit bodies fault → IsCopyFault disk table past limit
         bodies other → other ≡ fault }
-    ensures not_both { (copy : ℕ) (table : Table) (past : Past) (limit : ℕ)
+    ensures not_both { (disk : ℕ) (table : Table) (past : Past) (limit : ℕ)
         → (bodies : List (List ℕ)) (fault : ImageFault)
-        → IsCopyFault copy table past limit bodies fault → AreMountableAsCopy copy table past
+        → IsCopyFault disk table past limit bodies fault → AreMountableAsCopy disk table past
         limit bodies → ⊥ }
-    ensures one_image { (copy : ℕ) (table : Table) (past : Past) (limit : ℕ)
+    ensures one_image { (disk : ℕ) (table : Table) (past : Past) (limit : ℕ)
         → (image : List ℕ) (fault other : ImageFault)
-        → IsFirstFault (IsCopyFault copy table past limit) fault image
-        → IsFirstFault (IsCopyFault copy table past limit) other image → other ≡ fault }
-    ensures not_both_image { (copy : ℕ) (table : Table) (past : Past) (limit : ℕ)
+        → IsFirstFault (IsCopyFault disk table past limit) fault image
+        → IsFirstFault (IsCopyFault disk table past limit) other image → other ≡ fault }
+    ensures not_both_image { (disk : ℕ) (table : Table) (past : Past) (limit : ℕ)
         → (image : List ℕ) (fault : ImageFault) (bodies : List (List ℕ))
-        → IsFirstFault (IsCopyFault copy table past limit) fault image
-        → HasRecords bodies image → AreMountableAsCopy copy table past limit bodies → ⊥ }
+        → IsFirstFault (IsCopyFault disk table past limit) fault image
+        → HasRecords bodies image → AreMountableAsCopy disk table past limit bodies → ⊥ }
 {}

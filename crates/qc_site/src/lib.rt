@@ -3,6 +3,7 @@
 
 mod back;
 mod beginning;
+mod checkpoint;
 mod compare;
 mod fault;
 mod fits;
@@ -12,6 +13,7 @@ mod law;
 mod log;
 mod mounted;
 mod mounting;
+mod pairs;
 mod reading;
 mod replica;
 mod replica_desk;
@@ -25,4 +27,5 @@ pub use fault::SiteNo;
 pub use law::one_verdict;
 pub use mounted::Mounted;
 pub use mounting::mount;
+pub use pairs::mount_pair;
 pub use site::Site;

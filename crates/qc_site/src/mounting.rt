@@ -1,5 +1,5 @@
 //! Mounting a copy's disk.
-ghost use Rattle.std.specs.Prelude.{ℕ, ◌≡◌, ◌<◌, ◌≤◌, List, length, IfOk, IfErr, IsSome, OnOk, IsErrOf, IsErrAnd};
+ghost use Rattle.std.specs.Prelude.{ℕ, ◌≡◌, ◌<◌, ◌≤◌, ◌+◌, List, length, IfOk, IfErr, IsSome, OnOk, IsErrOf, IsErrAnd};
 ghost use Rattle.qc_disk.specs.Disk.{CountsOnce, HasCause, LeavesOnly, Grows};
 ghost use Rattle.qc_codec.specs.Base.{base_in, copy_base, tuples_of_base};
 ghost use Rattle.qc_codec.specs.Bodies as body;
@@ -28,30 +28,28 @@ use qc_journal::{Body, Journal};
 use qc_ledger::make;
 use std::alloc::{AllocError, Global};
 
-// The body that says that a copy's disk was made for a table.
-fn made_of(alloc: Global, copy: u8, table: &Table) -> Result<Body, AllocError>
-    requires copy { copy < 16 }
+/// The body that says that the disk of a number was made for a table.
+pub(crate) fn made_of(alloc: Global, who: u8, table: &Table) -> Result<Body, AllocError>
     requires proper { (body.table 1).fits table.now }
-    ensures { IfOk result (λ made. made.items ≡ made_body copy table.now) }
+    ensures { IfOk result (λ made. made.items ≡ made_body who table.now) }
 {
     let made = Made {
-        who: copy + 1,
+        who,
         table: copy_table(alloc, table)?,
     };
     write_made(alloc, &made)
 }
 
-// Reads what the bodies tell, and writes how the disk was made, where there are none.
-fn begin<D: Disk>(
+/// Reads what the bodies tell, and writes how the disk of this number was made, where there are none.
+pub(crate) fn begin<D: Disk>(
     alloc: Global,
+    who: u8,
     journal: &mut Journal<D>,
     bodies: &mut Vec<Body>,
-    copy: u8,
     table: &Table,
     past: &Past,
 ) -> Result<Beginning, SiteNo>
     requires up { IsUp journal.old }
-    requires copy { copy < 16 }
     requires few { table.now.copies ≤ 16 }
     requires proper { (body.table 1).fits table.now }
     ensures up { OnOk result (IsUp journal.new) }
@@ -59,32 +57,32 @@ fn begin<D: Disk>(
         (length table.now.records)
         (from_row (tuples_of_base table.now (base_in copy_base (bodies_of bodies.old.items))))
         (readings (grant_form table.now) (bodies_of bodies.old.items))) }
-    ensures granted { OnOk result (AreGranted copy table.now past.now
+    ensures granted { OnOk result (AreGranted who table.now past.now
         (bodies_of bodies.old.items)) }
     ensures fine { OnOk result (KeepsAll journal.old bodies.old
-        → AreMountableAsCopy copy table.now past.now (limit_of journal.old)
+        → AreMountableAsCopy who table.now past.now (limit_of journal.old)
         (bodies_of bodies.old.items)) }
     ensures bodies { OnOk result (HasMore bodies.old bodies.new
-        (to_write copy table.now (bodies_of bodies.old.items))) }
+        (to_write who table.now (bodies_of bodies.old.items))) }
     ensures limit { limit_of journal.new ≡ limit_of journal.old }
     ensures keeps { OnOk result (KeepsAll journal.old bodies.old
         → KeepsAll journal.new bodies.new) }
-    ensures refused { IfErr result (IsOfCopyImage copy (λ fault. KeepsAll journal.old bodies.old
-        → IsCopyFault copy table.now past.now (limit_of journal.old) (bodies_of bodies.old.items)
+    ensures refused { IfErr result (IsOfCopyImage who (λ fault. KeepsAll journal.old bodies.old
+        → IsCopyFault who table.now past.now (limit_of journal.old) (bodies_of bodies.old.items)
         fault)) }
     ensures any_moment { KeepsAll journal.old bodies.old
         → Leaves journal.old journal.new (HasSome (bodies_of bodies.old.items)
-        (to_write copy table.now (bodies_of bodies.old.items))) }
+        (to_write who table.now (bodies_of bodies.old.items))) }
     ensures grows { KeepsAll journal.old bodies.old → LosesNone journal.old journal.new }
     ensures cause { Costs journal.old journal.new (IsErrOf result SiteNo.Disk) }
     ensures counts_once { CostsOnce journal.old journal.new (IsErrOf result SiteNo.Disk) }
 {
-    let made = made_of(alloc, copy, table)?;
-    let told = grants_of(alloc, copy, table, past, &made, bodies)?;
+    let made = made_of(alloc, who, table)?;
+    let told = grants_of(alloc, who, table, past, &made, bodies)?;
     let start = restored_beginning(alloc, table, past.tops.as_slice(), &told.base, &told.grants)?;
     match make(journal, bodies, made) {
         Ok(()) => Ok(start),
-        Err(fault) => Err(mount_no(copy, fault)),
+        Err(fault) => Err(mount_no(who, fault)),
     }
 }
 
@@ -104,7 +102,7 @@ pub fn mount<D: Disk>(
     requires proper { (body.table 1).fits table.now }
 
     // Records were found, which are this copy's for this table, in order behind this past.
-    ensures mounts { IfOk result (λ mounted. MountsCopy copy table.now past.now limit
+    ensures mounts { IfOk result (λ mounted. MountsCopy (copy + 1) table.now past.now limit
         (D.view disk).content (records_of mounted)) }
     ensures copy { IfOk result (λ mounted. (copy_of mounted ≡ copy)
         × (copies_of mounted ≡ table.now.copies)) }
@@ -127,7 +125,8 @@ pub fn mount<D: Disk>(
 
     ensures any_moment { IsSome (D.view disk).content
         → LeavesOnly D.view disk (disk_after result)
-        (MountLeaves (to_write copy table.now) (D.view disk).may_leave (D.view disk).content) }
+        (MountLeaves (to_write (copy + 1) table.now) (D.view disk).may_leave
+        (D.view disk).content) }
     ensures grows { IsSome (D.view disk).content → (index : ℕ) (had : List ℕ)
         → Grows D.view disk (disk_after result) (HasAt index had) }
     ensures cause { HasCause (D.view disk).faults (D.view (disk_after result)).faults
@@ -135,11 +134,12 @@ pub fn mount<D: Disk>(
     ensures counts_once { CountsOnce (D.view disk).faults (D.view (disk_after result)).faults
         (IsErrAnd result (λ refused. refused.1 ≡ SiteNo.Disk)) }
 {
+    let who = copy + 1;
     let (mut journal, mut bodies) = match Journal::mount(alloc, disk, limit) {
         Ok(mounted) => mounted,
-        Err((disk, fault)) => return Err((disk, mount_no(copy, fault))),
+        Err((disk, fault)) => return Err((disk, mount_no(who, fault))),
     };
-    match begin(alloc, &mut journal, &mut bodies, copy, table, past) {
+    match begin(alloc, who, &mut journal, &mut bodies, table, past) {
         Ok(start) => Ok(Mounted {
             alloc,
             copy,

@@ -32,29 +32,28 @@ pub(crate) struct Told {
 // Holds the first body to how the disk was made, by its spelling.
 fn check_made(
     alloc: Global,
-    copy: u8,
+    who: u8,
     table: &Table,
     first: &[u8],
     spelled: &[u8],
 ) -> Result<(), SiteNo>
-    requires copy { copy < 16 }
     requires fits { (body.table 1).fits table.now }
-    requires spelled { spelled.now ≡ made_body copy table.now }
+    requires spelled { spelled.now ≡ made_body who table.now }
     ensures made { OnOk result (all_of body.made first.now ≡ Some
-        (made_for (copy + 1) table.now)) }
-    ensures fault { (past : Past) → IfErr result (IsOfBytes copy
-        (IsFirstBad copy table.now past first.now)) }
+        (made_for who table.now)) }
+    ensures fault { (past : Past) → IfErr result (IsOfBytes who
+        (IsFirstBad who table.now past first.now)) }
 {
     if first == spelled {
         return Ok(());
     }
     match read_made(alloc, first) {
-        Ok(kept) if kept.who == copy + 1 => {
+        Ok(kept) if kept.who == who => {
             let asked = copy_table(alloc, table)?;
             let kept = kept.table;
-            Err(image_no(copy, ImageFault::Table { kept, asked }))
+            Err(image_no(who, ImageFault::Table { kept, asked }))
         }
-        Ok(_) | Err(CodecNo::Bad) => Err(image_no(copy, ImageFault::Grammar { index: 0 })),
+        Ok(_) | Err(CodecNo::Bad) => Err(image_no(who, ImageFault::Grammar { index: 0 })),
         Err(CodecNo::Memory) => Err(SiteNo::Short(Short::Memory)),
     }
 }
@@ -62,21 +61,20 @@ fn check_made(
 // The base that the second body is, where it is one.
 fn read_second(
     alloc: Global,
-    copy: u8,
+    who: u8,
     table: &Table,
     past: &Past,
     bodies: &[Body],
 ) -> Result<Option<BaseRecord>, SiteNo>
-    requires copy { copy < 16 }
     requires few { table.now.copies ≤ 16 }
     requires small { length table.now.records < 256 }
-    requires made { AreMadeFor copy table.now (bodies_of bodies.now) }
+    requires made { AreMadeFor who table.now (bodies_of bodies.now) }
     ensures base { IfOk result (λ base. base ≡ base_in copy_base (bodies_of bodies.now)) }
     ensures old { IfOk result (λ base. epoch_of_base base ≤ past.now.epoch) }
     ensures sized { IfOk result (λ base. length (tuples_of_base table.now base)
         ≡ length table.now.records) }
-    ensures fault { IfErr result (IsOfBytes copy
-        (IsLaterBad copy table.now past.now (bodies_of bodies.now))) }
+    ensures fault { IfErr result (IsOfBytes who
+        (IsLaterBad who table.now past.now (bodies_of bodies.now))) }
 {
     if bodies.len() < 2 {
         return Ok(None);
@@ -84,7 +82,7 @@ fn read_second(
     let records = table.records.as_slice().len() as u8;
     match read_base(alloc, bodies[1].as_slice(), table.copies, records) {
         Ok(base) if base.epoch <= past.epoch => Ok(Some(base)),
-        Ok(_) => Err(image_no(copy, ImageFault::Grammar { index: 1 })),
+        Ok(_) => Err(image_no(who, ImageFault::Grammar { index: 1 })),
         Err(CodecNo::Bad) => Ok(None),
         Err(CodecNo::Memory) => Err(SiteNo::Short(Short::Memory)),
     }
@@ -133,57 +131,56 @@ fn take_next(
 // What the bodies behind the first and the base grant, where each may stand behind those before it.
 fn read_rest(
     alloc: Global,
-    copy: u8,
+    who: u8,
     table: &Table,
     past: &Past,
     base: &Option<BaseRecord>,
     bodies: &[Body],
 ) -> Result<Granted, SiteNo>
-    requires copy { copy < 16 }
     requires few { table.now.copies ≤ 16 }
     requires some { 0 < length bodies.now }
-    requires made { MayStand copy table.now past.now [] (slice_index_or (bodies_of bodies.now) 0
+    requires made { MayStand who table.now past.now [] (slice_index_or (bodies_of bodies.now) 0
         []) }
     requires base { base.now ≡ base_in copy_base (bodies_of bodies.now) }
     requires old { epoch_of_base base.now ≤ past.now.epoch }
     ensures told { IfOk result (λ granted. given_by granted ≡ readings (grant_form table.now)
         (bodies_of bodies.now)) }
-    ensures order { OnOk result (AreInOrder copy table.now past.now (bodies_of bodies.now)) }
-    ensures fault { IfErr result (IsOfBytes copy
-        (IsLaterBad copy table.now past.now (bodies_of bodies.now))) }
+    ensures order { OnOk result (AreInOrder who table.now past.now (bodies_of bodies.now)) }
+    ensures fault { IfErr result (IsOfBytes who
+        (IsLaterBad who table.now past.now (bodies_of bodies.now))) }
 {
     let epoch = epoch_of(base);
     let mut granted = Granted::new(alloc);
     for index in in_front(base)..bodies.len() {
         if !take_next(&mut granted, table, past, epoch, bodies[index].as_slice())? {
             let index = index as u64;
-            return Err(image_no(copy, ImageFault::Grammar { index }));
+            return Err(image_no(who, ImageFault::Grammar { index }));
         }
     }
     Ok(granted)
 }
 
-/// What bodies tell, where they are a copy's for a table, in order behind a past. A base has a tuple for each record.
+/// What bodies tell, where they are those of the disk of this number for a table, in order behind a past. A base has a
+/// tuple for each record.
 pub(crate) fn grants_of(
     alloc: Global,
-    copy: u8,
+    who: u8,
     table: &Table,
     past: &Past,
     spelled: &[u8],
     bodies: &[Body],
 ) -> Result<Told, SiteNo>
-    requires copy { copy < 16 }
     requires fits { (body.table 1).fits table.now }
     requires few { table.now.copies ≤ 16 }
-    requires spelled { spelled.now ≡ made_body copy table.now }
+    requires spelled { spelled.now ≡ made_body who table.now }
     ensures told { IfOk result (λ told. told.grants.items ≡ readings (grant_form table.now)
         (bodies_of bodies.now)) }
     ensures base { IfOk result (λ told. told.base ≡ base_in copy_base (bodies_of bodies.now)) }
     ensures sized { IfOk result (λ told. length (tuples_of_base table.now told.base)
         ≡ length table.now.records) }
-    ensures granted { OnOk result (AreGranted copy table.now past.now (bodies_of bodies.now)) }
-    ensures fault { (limit : ℕ) → IfErr result (IsOfBytes copy
-        (IsCopyFault copy table.now past.now limit (bodies_of bodies.now))) }
+    ensures granted { OnOk result (AreGranted who table.now past.now (bodies_of bodies.now)) }
+    ensures fault { (limit : ℕ) → IfErr result (IsOfBytes who
+        (IsCopyFault who table.now past.now limit (bodies_of bodies.now))) }
 {
     if bodies.is_empty() {
         return Ok(Told {
@@ -191,9 +188,9 @@ pub(crate) fn grants_of(
             grants: Vec::new(alloc),
         });
     }
-    check_made(alloc, copy, table, bodies[0].as_slice(), spelled)?;
-    let base = read_second(alloc, copy, table, past, bodies)?;
-    let granted = read_rest(alloc, copy, table, past, &base, bodies)?;
+    check_made(alloc, who, table, bodies[0].as_slice(), spelled)?;
+    let base = read_second(alloc, who, table, past, bodies)?;
+    let granted = read_rest(alloc, who, table, past, &base, bodies)?;
     let grants = granted.into_grants();
     Ok(Told { base, grants })
 }

@@ -1,7 +1,8 @@
 //! What a copy does at its desk: it looks, asks, and enters.
-ghost use Rattle.std.specs.Prelude.{◌≡◌, ◌<◌, ◌≤◌, ◌⊎◌, ◌++◌, ◌∷◌, [], true, Ok, IfOk, IfErr, IfSome, OnOk, OnErr, None, Some, length, option_to_list, slice_index_or};
+ghost use Rattle.std.specs.Prelude.{◌≡◌, ◌<◌, ◌≤◌, ◌⊎◌, ◌++◌, ◌∷◌, [], true, All, Ok, IfOk, IfErr, IfSome, OnOk, OnErr, None, Some, length, option_to_list, slice_index_or};
 ghost use Rattle.qc_config.specs.declared.tuple.Tuple.{Tuple};
 ghost use Rattle.qc_codec.specs.Bodies as body;
+ghost use Rattle.qc_codec.specs.Fields as field;
 ghost use Rattle.qc_codec.specs.Fields.{format_1};
 ghost use Rattle.qc_config.specs.Tuple.{after};
 ghost use Rattle.qc_event.specs.Seen.{seen};
@@ -17,12 +18,13 @@ ghost use Rattle.qc_desk.specs.Entries.{IsOlder};
 ghost use Rattle.qc_desk.specs.Calling.{Looked};
 ghost use Rattle.qc_desk.specs.Consulting.{HasAsked, IsTold, granted_before};
 ghost use Rattle.qc_desk.specs.declared.consult.Consulted.TheVariants.{Again, Fresh};
+ghost use Rattle.qc_desk.specs.Held.{held_row};
 ghost use Rattle.qc_desk.specs.Known.{AreKnown};
 ghost use Rattle.qc_ledger.specs.Entered.{SeesMore};
 ghost use Rattle.qc_site.specs.AtDesk.{hand_after, hand_entries, told_entries, unable_entry, IsGranted, LeavesKnown, OnlyLooks};
 ghost use Rattle.qc_site.specs.Replica.{IsTableOf};
 
-use crate::fits::known_to_fit;
+use crate::fits::{held_to_fit, known_to_fit};
 use crate::replica::{Replica, grant_of};
 use qc_config::Tuple;
 use qc_desk::{Consulted, Desk, Pass, Store};
@@ -116,6 +118,32 @@ impl<N: Store, const C: u8> Replica<N, C> {
         ensures up { self.new.up ≡ self.old.up }
     {
         desk.grants(rt, &mut self.pass, C)
+    }
+
+    /// What the copy holds of each record, in the history at this step.
+    pub(crate) fn held<R: Wait>(
+        &mut self,
+        rt: &R,
+        desk: &Desk<N>,
+        alloc: Global,
+    ) -> Result<Vec<Tuple>, AllocError>
+        ensures held { IfOk result (λ row. row.items
+            ≡ held_row (slice_index_or N.base C []) self.new.pass.seen C) }
+        ensures looks { OnlyLooks C self.old self.new }
+        ensures hand { self.new.hand ≡ self.old.hand }
+        ensures up { self.new.up ≡ self.old.up }
+    {
+        desk.held(rt, alloc, &mut self.pass, C)
+    }
+
+    /// What the copy holds of each record, by what it has seen, fits the form in which a base has it.
+    pub(crate) fn held_fits(&self, held: &[Tuple])
+        requires proper { IsProper (setting_of N.table N.base) }
+        requires held { held.now ≡ held_row (slice_index_or N.base C []) self.now.pass.seen C }
+        ensures fits { All (field.tuple (format_1 (length N.base))).fits held.now }
+        ensures small { C < 16 }
+    {
+        held_to_fit(&self.pass, C, held);
     }
 
     /// Asks the desk of a request that the seer saw. A repeat is told what it was granted, and a grant that may be made is

@@ -1,5 +1,5 @@
 //! How a site serves a request.
-ghost use Rattle.std.specs.Prelude.{◌≡◌, ◌∷◌, true, IfOk, IfErr, OnOk, OnErr, IsErrOf, Err, Ok, Some, is_some};
+ghost use Rattle.std.specs.Prelude.{◌≡◌, ◌∷◌, ◌↔◌, true, IfOk, IfErr, OnOk, OnErr, IsErrOf, Err, Ok, Some, is_some};
 ghost use Rattle.qc_config.specs.declared.tuple.Tuple.{Tuple};
 ghost use Rattle.qc_event.specs.Grants.{grant_with};
 ghost use Rattle.qc_event.specs.declared.event.Answered.TheVariants.{Down, Full, Granted, Strange};
@@ -58,11 +58,11 @@ fn of_site(no: SiteNo) -> ServeNo
 }
 
 impl<D: Disk, N: Store, const C: u8> Site<D, N, C> {
-    ghost use Rattle.qc_site.specs.Calls.{site_state, SiteBecame, CanServe, FitsOrRepeats, HasServed, ReviveSays, ServeSays};
+    ghost use Rattle.qc_site.specs.Calls.{site_state, SiteBecame, CanServe, FitsOrRepeats, HasServed, ReviveSays, ServeSays, SiteWroteNone};
     ghost use Rattle.qc_site.specs.Sites.{Differs, EntersHand, IsByLocks, IsFullFor, IsStrangeFor, IsUnwritten};
 
-    // Is up, with nothing in hand.
-    fn rise<R: Wait>(&mut self, rt: &R, desk: &Desk<N>) -> Result<(), SiteNo>
+    /// Is up, with nothing in hand.
+    pub(crate) fn rise<R: Wait>(&mut self, rt: &R, desk: &Desk<N>) -> Result<(), SiteNo>
         requires proper { IsProper (setting_of N.table N.base) }
         ensures ready { OnOk result (CanServe self.new.replica) }
         ensures refused { IfErr result (ReviveSays (site_state self.new)) }
@@ -71,6 +71,9 @@ impl<D: Disk, N: Store, const C: u8> Site<D, N, C> {
             × (self.new.log ≡ self.old.log) × (self.new.replica ≡ self.old.replica) }
         ensures became { SiteBecame (setting_of N.table N.base) C None (site_state self.old)
             (site_state self.new) }
+        ensures wrote_none { SiteWroteNone (setting_of N.table N.base) C (site_state self.old)
+            (site_state self.new) }
+        ensures strange { (result ≡ Err SiteNo.Strange) ↔ (is_some self.new.strange ≡ true) }
         ensures for_good { is_some self.old.strange ≡ true
             → (result ≡ Err SiteNo.Strange) × (self.new.strange ≡ self.old.strange) }
         ensures differs { IsStrangeFor (Differs self.old.log

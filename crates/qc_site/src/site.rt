@@ -1,5 +1,5 @@
 //! A copy over its desk and its disk: what it granted stands in each image.
-ghost use Rattle.std.specs.Prelude.{◌≡◌, ◌≤◌, ◌⊎◌, ◌++◌, ℕ, List, [], true, false, IfOk, IfSome, IfErr, OnOk, OnErr, IsErrOf, Err, None, length, is_some, option_map, option_to_list};
+ghost use Rattle.std.specs.Prelude.{◌≡◌, ◌≤◌, ◌⊎◌, ◌++◌, ◌↔◌, ℕ, List, [], true, false, IfOk, IfSome, IfErr, OnOk, OnErr, IsErrOf, Err, None, length, is_some, option_map, option_to_list};
 ghost use Rattle.qc_event.specs.Base.{IsProper};
 ghost use Rattle.qc_event.specs.Grants.{MayGrant};
 ghost use Rattle.qc_event.specs.History.{grants, limit};
@@ -93,6 +93,8 @@ impl<D: Disk, N: Store, const C: u8> Site<D, N, C> {
         ensures up { OnOk result (IsUp (log_journal self.new.log)) }
         ensures sound { OnOk result (is_some self.new.strange ≡ is_some self.old.strange) }
         ensures refused { IfErr result (ReviveSays (site_state self.new)) }
+        ensures other { IfErr result (λ no. (no ≡ SiteNo.Strange)
+            ⊎ (self.new.strange ≡ self.old.strange)) }
         ensures down { self.new.replica.up ≡ false }
         ensures pass { self.new.replica.pass ≡ self.old.replica.pass }
         ensures hand { (self.new.replica.hand ≡ None)
@@ -188,6 +190,7 @@ impl<D: Disk, N: Store, const C: u8> Site<D, N, C> {
             (site_state self.new) }
         ensures wrote_none { SiteWroteNone (setting_of N.table N.base) C (site_state self.old)
             (site_state self.new) }
+        ensures strange { (result ≡ Err SiteNo.Strange) ↔ (is_some self.new.strange ≡ true) }
         ensures for_good { is_some self.old.strange ≡ true
             → (result ≡ Err SiteNo.Strange) × (self.new.strange ≡ self.old.strange) }
         ensures differs { IsStrangeFor (Differs self.old.log

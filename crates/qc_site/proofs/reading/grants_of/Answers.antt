@@ -11,13 +11,13 @@ use Rattle.qc_site.proofs.reading.grants_of.Goals as goal
 
 pub returns-in_err-check_made-clause-fault : goal.returns-in_err-check_made-clause-fault
 returns-in_err-check_made-clause-fault c = λ limit.
-    let copy = c.args.copy in
+    let disk = c.args.who in
     let table = c.args.table.now in
     let past = c.args.past.now in
     let bodies = c.args.bodies.now in
     let v = c.index-bodies-0.result in
-    handed_on copy c.from_residual.result c.in_err-check_made.field-0.0 (IsFirstBad copy table past c.as_slice.result.now) (IsCopyFault copy table past limit (bodies_of bodies))
-    (first_fault copy table past limit c.as_slice.result.now (bodies_of bodies) (bodies_of (drop 1 bodies)) (with_first bodies v (nonzero (length bodies) (sym c.is_empty.ensures ∙ c.if-is_empty.false)) c.index-bodies-0.is ∙ ap (λ (b : List ℕ). b ∷ bodies_of (drop 1 bodies)) (sym c.as_slice.ensures.value)))
+    handed_on disk c.from_residual.result c.in_err-check_made.field-0.0 (IsFirstBad disk table past c.as_slice.result.now) (IsCopyFault disk table past limit (bodies_of bodies))
+    (first_fault disk table past limit c.as_slice.result.now (bodies_of bodies) (bodies_of (drop 1 bodies)) (with_first bodies v (nonzero (length bodies) (sym c.is_empty.ensures ∙ c.if-is_empty.false)) c.index-bodies-0.is ∙ ap (λ (b : List ℕ). b ∷ bodies_of (drop 1 bodies)) (sym c.as_slice.ensures.value)))
     c.from_residual.ensures.1 (c.in_err-check_made.ensures.fault past)
 
 pub read_second-requires-clause-small : goal.read_second-requires-clause-small

@@ -15,12 +15,12 @@ use Rattle.qc_site.proofs.reading.read_rest.Goals as goal
 
 pub loop-index-init : goal.loop-index-init
 loop-index-init c =
-    let copy = c.args.copy in
+    let disk = c.args.who in
     let table = c.args.table.now in
     let past = c.args.past.now in
     let bodies = c.args.bodies.now in
     let base = c.args.base.now in
-    let b = subst (HasBegun copy table past base bodies) (sym c.in_front-index.ensures) (begun copy table past base bodies c.requires.some c.requires.made c.requires.base c.requires.old) in
+    let b = subst (HasBegun disk table past base bodies) (sym c.in_front-index.ensures) (begun disk table past base bodies c.requires.some c.requires.made c.requires.base c.requires.old) in
     record { told = c.new-granted.ensures.none ∙ sym b.told; order = b.order; based = b.based; begun = b.some; accesses = c.new-granted.ensures.accesses }
 
 pub returns-then-not-branch-clause-fault : goal.returns-then-not-branch-clause-fault
@@ -31,16 +31,16 @@ returns-then-not-branch-clause-fault c =
     let epoch = c.epoch_of-epoch.result in
     let v = c.index-bodies-index.result in
     let tells = c.in_ok-take_next.ensures.tells in
-    subst (IsOfBytes c.args.copy (IsLaterBad c.args.copy table past (bodies_of bodies))) (sym c.image_no.ensures) (
+    subst (IsOfBytes c.args.who (IsLaterBad c.args.who table past (bodies_of bodies))) (sym c.image_no.ensures) (
       refl,
-      later_bad c.args.copy table past bodies c.loop-index.index v c.loop-index-test.true c.index-bodies-index.is c.loop-index.invariant.begun c.loop-index.invariant.order
+      later_bad c.args.who table past bodies c.loop-index.index v c.loop-index-test.true c.index-bodies-index.is c.loop-index.invariant.begun c.loop-index.invariant.order
           c.args.base.now c.requires.base c.loop-index.invariant.based epoch c.epoch_of-epoch.ensures
           (λ may. true≢false (sym (tells.1 (subst (λ (b : List ℕ). MatchOption (all_of (grant_form table) b) ⊥ (MayFollow table past epoch (given_by c.loop-index.granted))) (sym c.as_slice.ensures.value) (subst (λ (gs : List Grant). MatchOption (all_of (grant_form table) v.items) ⊥ (MayFollow table past epoch gs)) (sym c.loop-index.invariant.told) may))) ∙ c.if-not-branch.true)),
     )
 
 pub loop-index-preserved : goal.loop-index-preserved
 loop-index-preserved c =
-    let copy = c.args.copy in
+    let disk = c.args.who in
     let table = c.args.table.now in
     let past = c.args.past.now in
     let bodies = c.args.bodies.now in
@@ -50,12 +50,12 @@ loop-index-preserved c =
     let v = c.index-bodies-index.result in
     let was = c.loop-index.invariant in
     let went = c.in_ok-take_next.ensures in
-    let next = keeps_on copy table past bodies i v c.loop-index-test.true c.index-bodies-index.is was.begun was.order base c.requires.base was.based epoch c.epoch_of-epoch.ensures _ c.as_slice.result.now c.as_slice.ensures.value
+    let next = keeps_on disk table past bodies i v c.loop-index-test.true c.index-bodies-index.is was.begun was.order base c.requires.base was.based epoch c.epoch_of-epoch.ensures _ c.as_slice.result.now c.as_slice.ensures.value
     was.told (went.tells.0 c.if-not-branch.false) in
     record {
       told = OnTrue_at c.if-not-branch.false went.taken ∙ next.0;
       order = next.1;
-      based = base_kept copy table past bodies i v c.loop-index-test.true c.index-bodies-index.is was.begun was.order base c.requires.base was.based epoch c.epoch_of-epoch.ensures;
+      based = base_kept disk table past bodies i v c.loop-index-test.true c.index-bodies-index.is was.begun was.order base c.requires.base was.based epoch c.epoch_of-epoch.ensures;
       begun = omega (arith, was.begun);
       accesses = OnTrue_at c.if-not-branch.false went.accesses;
     }

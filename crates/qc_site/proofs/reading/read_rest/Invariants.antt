@@ -10,7 +10,7 @@ use Rattle.qc_site.proofs.reading.read_rest.Given as goal
 abbrev pub invariant-loop-index : goal.invariant-loop-index
 invariant-loop-index l = record {
   told : given_by l.granted ≡ readings (grant_form l.table) (bodies_of (take l.index l.bodies));
-  order : AreInOrder l.copy l.table l.past (bodies_of (take l.index l.bodies));
+  order : AreInOrder l.who l.table l.past (bodies_of (take l.index l.bodies));
   based : base_in copy_base (bodies_of (take l.index l.bodies)) ≡ l.base;
   begun : 1 ≤ l.index;
   accesses : HasAccesses l.granted;

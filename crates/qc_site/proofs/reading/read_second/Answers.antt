@@ -15,12 +15,12 @@ returns-in-Ok-clause-sized c = base_sized (format_1 c.args.table.now.copies) (le
 
 pub returns-in-Ok-2-clause-fault : goal.returns-in-Ok-2-clause-fault
 returns-in-Ok-2-clause-fault c =
-    let copy = c.args.copy in
+    let disk = c.args.who in
     let table = c.args.table.now in
     let past = c.args.past.now in
     let bodies = c.args.bodies.now in
     let read =
     ap₂ (λ (n : ℕ) (bytes : List ℕ). all_of (body.base (format_1 table.copies) n) bytes) (sym (ap length c.as_slice.ensures)) (sym c.as_slice-2.ensures.value) ∙ c.in-Ok.ensures.exact in
     let within : 1 < length bodies = omega (arith, c.if-bodies-lt2.false) in
-    subst (IsOfBytes copy (IsLaterBad copy table past (bodies_of bodies))) (sym c.image_no.ensures)
-    (refl, second_bad copy table past bodies c.index-bodies-1.result within c.index-bodies-1.is c.requires.made c.in-Ok.base read (λ old. omega (arith, old, c.if-read_base-past.false)))
+    subst (IsOfBytes disk (IsLaterBad disk table past (bodies_of bodies))) (sym c.image_no.ensures)
+    (refl, second_bad disk table past bodies c.index-bodies-1.result within c.index-bodies-1.is c.requires.made c.in-Ok.base read (λ old. omega (arith, old, c.if-read_base-past.false)))

@@ -1,6 +1,9 @@
 use Rattle.std.proofs.Common.{◌≡◌, ◌∙◌, sym, true, false}
+use Rattle.qc_event.specs.Tables.{setting_of}
+use Rattle.qc_journal.specs.Journal.{disk_of}
 use Rattle.qc_site.specs.Calls.{site_state}
-use Rattle.qc_site.proofs.Calls.{ready_by}
+use Rattle.qc_site.specs.Log.{log_journal}
+use Rattle.qc_site.proofs.Calls.{nothing_written, ready_by}
 use Rattle.qc_site.proofs.Refusals.{want_says}
 use Rattle.qc_site.proofs.site.Site.rise.Goals as goal
 
@@ -15,3 +18,7 @@ returns-then-is_up-clause-idle g c = λ ready. let still = c.enter_hand.ensures.
 
 pub returns-else-is_up-clause-idle : goal.returns-else-is_up-clause-idle
 returns-else-is_up-clause-idle g c = λ ready. let never : true ≡ false = sym ready.up ∙ sym c.is_up.ensures ∙ c.if-is_up.false in absurd cc
+
+pub returns-then-is_up-clause-wrote_none : goal.returns-then-is_up-clause-wrote_none
+returns-then-is_up-clause-wrote_none g c =
+    nothing_written (setting_of g.N.Store.table g.N.Store.base) g.row.C _ _ (g.met.D.Disk.leaves_now (disk_of (log_journal c.args.self.now.log))) c.enter_hand.ensures.log c.enter_hand.ensures.became.seen

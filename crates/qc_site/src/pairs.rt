@@ -1,0 +1,98 @@
+//! Mounting a copy's pair.
+ghost use Rattle.std.specs.Prelude.{ℕ, ◌≡◌, ◌<◌, ◌+◌, List, length, true, false, not, IfOk, IfErr, IsErrAnd};
+ghost use Rattle.qc_codec.specs.Base.{base_in, copy_base, tuples_of_base};
+ghost use Rattle.qc_codec.specs.Bodies as body;
+ghost use Rattle.qc_codec.specs.Copy.{grant_form};
+ghost use Rattle.qc_codec.specs.Ledger.{readings};
+ghost use Rattle.qc_codec.specs.Restored.{restored_row};
+ghost use Rattle.qc_desk.specs.Held.{from_row};
+ghost use Rattle.qc_journal.specs.Journal.{limit_of, IsUp};
+ghost use Rattle.qc_ledger.specs.Pairs.{MountsHalf};
+ghost use Rattle.qc_pair.specs.Fold.{swapped_in, IsFoldFor};
+ghost use Rattle.qc_pair.specs.Pair.{number_at};
+ghost use Rattle.qc_pair.specs.declared.kind.Kind.TheVariants as kind;
+ghost use Rattle.qc_site.specs.Image.{made_body, to_write};
+ghost use Rattle.qc_site.specs.Mounted.{copies_of, copy_of, journal_of, records_of};
+ghost use Rattle.qc_site.specs.Pairs.{own_after, spare_after, IsCopyPairNo, MountsCopyPair};
+ghost use Rattle.qc_site.specs.Start.{start_of};
+
+use crate::fault::pair_no;
+use crate::mounted::Mounted;
+use crate::mounting::{begin, made_of};
+use qc_codec::Past;
+use qc_disk::Disk;
+use qc_event::Table;
+use qc_ledger::hand_back;
+use qc_pair::{Fold, Kind, PairNo, open};
+use std::alloc::Global;
+
+/// Reads what stands on the active one of a copy's disk and its spare, and writes there how it was made, where nothing
+/// stands. The past is what the ledger told before this mounting, and the epoch is the next, which a fold will have. The
+/// cost is that of `mount`. A refusal hands both disks back.
+pub fn mount_pair<D: Disk>(
+    alloc: Global,
+    copy: u8,
+    disk: D,
+    spare: D,
+    table: &Table,
+    past: &Past,
+    epoch: u32,
+    limit: u64,
+) -> Result<(Mounted<D>, Fold<D>), (D, D, PairNo)>
+    requires copy { copy < table.now.copies }
+    requires proper { (body.table 1).fits table.now }
+    requires begun { 0 < epoch }
+
+    // The active disk was mounted as the copy's own is, and the other keeps what it had.
+    ensures mounts { IfOk result (λ mounted. MountsCopyPair copy table.now past.now limit
+        (D.view disk).content (D.view spare).content mounted.0 mounted.1) }
+    ensures copy { IfOk result (λ mounted. (copy_of mounted.0 ≡ copy)
+        × (copies_of mounted.0 ≡ table.now.copies)) }
+    ensures limit { IfOk result (λ mounted. limit_of (journal_of mounted.0) ≡ limit) }
+    ensures up { IfOk result (λ mounted. IsUp (journal_of mounted.0)) }
+    ensures fold { IfOk result (λ mounted. IsFoldFor mounted.1 limit
+        (made_body (number_at (not (swapped_in mounted.1)) (copy + 1)) table.now) epoch
+        table.now.copies) }
+
+    // It starts with what its records restore, by the tops that were logged, from the tuples of its base.
+    ensures start { IfOk result (λ mounted. start_of mounted.0 ≡ restored_row past.now.tops
+        (length table.now.records)
+        (from_row (tuples_of_base table.now (base_in copy_base (records_of mounted.0))))
+        (readings (grant_form table.now) (records_of mounted.0))) }
+
+    // It is refused for the pair's first fault, where the disks tell their bytes.
+    ensures refused { IfErr result (λ refused. IsCopyPairNo copy table.now past.now limit
+        (D.view disk).content (D.view spare).content refused.2) }
+
+    // What it leaves of the disk, and of the spare.
+    ensures own { MountsHalf kind.Copy (copy + 1) (D.view disk).content (D.view spare).content
+        (λ number. to_write number table.now) false D.view
+        (IsErrAnd result (λ refused. refused.2 ≡ PairNo.Disk (copy + 1))) disk (own_after result) }
+    ensures spare { MountsHalf kind.Copy (copy + 1) (D.view disk).content (D.view spare).content
+        (λ number. to_write number table.now) true D.view
+        (IsErrAnd result (λ refused. refused.2 ≡ PairNo.Disk (copy + 1 + 17))) spare
+        (spare_after result) }
+{
+    let who = copy + 1;
+    let (mut pair, mut bodies) = open(alloc, disk, spare, who, Kind::Copy, limit)?;
+    let active = pair.active_disk(who);
+    let made = match made_of(alloc, pair.other_disk(who), table) {
+        Ok(made) => made,
+        Err(_) => return Err(hand_back(pair, PairNo::Memory)),
+    };
+    match begin(alloc, active, &mut pair.active, &mut bodies, table, past) {
+        Ok(start) => {
+            let (journal, fold) = pair.into_fold(made, epoch, table.copies);
+            let mounted = Mounted {
+                alloc,
+                copy,
+                copies: table.copies,
+                journal,
+                bodies,
+                start,
+            };
+            Ok((mounted, fold))
+        }
+        Err(no) => Err(hand_back(pair, pair_no(active, no))),
+    }
+}
