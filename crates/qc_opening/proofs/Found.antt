@@ -171,7 +171,7 @@ module _ {D : Type 0} {g : Ghosts D} where
         proper = proper;
         small = small;
         bytes = bytes;
-        ledger = subst (λ o. book.MountsLedger table store.limit o (book.records_of parts.book) parts.past parts.epoch) (sym ledger_told) store.mounted.ledger_is.mounts;
+        ledger = subst (λ o. book.MountsLedger 0 table store.limit o (book.records_of parts.book) parts.past parts.epoch) (sym ledger_told) store.mounted.ledger_is.mounts;
         copies = λ i there. copies i there;
         as_many = as_many;
         starts = λ i there. starts i there;
@@ -183,12 +183,12 @@ module _ {D : Type 0} {g : Ghosts D} where
               let (m, is) = at_place parts.copies.items i (omega (arith, low, all)) in
               subst AreBytes (sym (mapped_at copy.records_of parts.copies.items i m [] is)) (all_at (λ x. AreBytes (copy.records_of x)) parts.copies.items i m copies_bytes is)
 
-          copies : (i : ℕ) → i < table.copies → copy.MountsCopy i table parts.past store.limit (told_by told (i + 1)) (bodies_found parts.book parts.copies.items (i + 1))
+          copies : (i : ℕ) → i < table.copies → copy.MountsCopy (i + 1) table parts.past store.limit (told_by told (i + 1)) (bodies_found parts.book parts.copies.items (i + 1))
           copies i there =
               let (m, is) = at_place parts.copies.items i (omega (arith, there, all)) in
               let at = copy_at i m is in
-              subst (λ o. copy.MountsCopy i table parts.past store.limit o (bodies_found parts.book parts.copies.items (i + 1))) (sym at.disk_told)
-              (subst (λ bs. copy.MountsCopy i table parts.past store.limit (g.view at.disk).content bs) (sym at.bodies) at.is_copy.mounts)
+              subst (λ o. copy.MountsCopy (i + 1) table parts.past store.limit o (bodies_found parts.book parts.copies.items (i + 1))) (sym at.disk_told)
+              (subst (λ bs. copy.MountsCopy (i + 1) table parts.past store.limit (g.view at.disk).content bs) (sym at.bodies) at.is_copy.mounts)
 
           starts : (i : ℕ) → i < table.copies
               → slice_index_or base i [] ≡ restored_row parts.past.tops (length table.records) (from_row (tuples_of_base table (base_in copy_base (bodies_found parts.book parts.copies.items (i + 1)))))

@@ -13,3 +13,4 @@ pub mod Restarts
 pub mod OneImage
 pub mod CutOff
 pub mod Worked
+pub mod KeptPairs

@@ -28,7 +28,7 @@ use Rattle.qc_event.specs.Tables.{first_configs, first_tuple, setting_of}
 use Rattle.qc_desk.specs.Held.{from_row}
 use Rattle.qc_script.specs.Plan.{ScriptPlan}
 use Rattle.qc_script.specs.Reading.{IsProper, IsProperRow}
-use Rattle.qc_opening.specs.Mountings.{IsMounted}
+use Rattle.qc_opening.specs.Mountings.{MountedOn}
 use Rattle.qc_opening.proofs.KeptDisks.Stands.{copy_spelled}
 
 -- CONFIGURATIONS
@@ -80,9 +80,9 @@ module _ (plan : ScriptPlan) (proper : IsProper plan) where
       let of_base = base_for plan.table.copies (length plan.table.records) b (All-head (copy_base plan.table).fits b [] fits) in
       of_base.configs rec no_tuple (omega (arith, within, of_base.same_records))
 
-  module _ (told : ℕ → Option (List ℕ)) (records : ℕ → List (List ℕ)) (epoch : ℕ) (base : List (List Tuple)) (m : IsMounted plan.table told records epoch base) where
+  module _ (disk : ℕ → ℕ) (told : ℕ → Option (List ℕ)) (records : ℕ → List (List ℕ)) (epoch : ℕ) (base : List (List Tuple)) (m : MountedOn disk plan.table told records epoch base) where
     puts : (copy : ℕ) → copy < plan.table.copies → All (GrantHas (IsConfigFor plan.table.copies)) (readings (grant_form plan.table) (records (copy + 1)))
-    puts copy there k d lt = grant_puts plan.table.copies _ ((copy_spelled plan.table told records epoch base m copy there).tells.grants_fit k d lt)
+    puts copy there k d lt = grant_puts plan.table.copies _ ((copy_spelled disk plan.table told records epoch base m copy there).tells.grants_fit k d lt)
 
     -- with what a copy begins
     abbrev begin : ℕ → List Tuple
@@ -90,7 +90,7 @@ module _ (plan : ScriptPlan) (proper : IsProper plan) where
 
     start_for : (copy rec : ℕ) → copy < plan.table.copies → rec < length plan.table.records → IsConfigFor plan.table.copies (from_row (begin copy) rec).config
     start_for copy rec there within =
-        let is = (copy_spelled plan.table told records epoch base m copy there).tells in
+        let is = (copy_spelled disk plan.table told records epoch base m copy there).tells in
         subst (λ (row : List Tuple). IsConfigFor plan.table.copies (from_row row rec).config) (sym is.begin_is) (begin_for is.base is.base_fits rec within)
 
     restored_for : (copy rec : ℕ) → copy < plan.table.copies → rec < length plan.table.records

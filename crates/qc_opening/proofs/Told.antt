@@ -102,13 +102,13 @@ module _ {D : Type 0} (view : D → DiskView) (plan : ScriptPlan) (most : ℕ) (
 
   pub restored : (images : List (List ℕ)) → Offers offers images → length images ≡ plan.table.copies + 1 → Restores plan.table images stored.ended.start
   restored images offered as_many =
-      restores plan.table images run.kept.records stored.epoch stored.ended.start
+      restores (λ place. place) plan.table images run.kept.records stored.epoch stored.ended.start
       (mounted_otherwise plan.table (λ number. Some (get_or images number [])) told run.kept.records stored.epoch stored.ended.start
       (λ number low. tells_image (offers number) (told number) (get_or images number []) (image_at offers images offered number (omega (arith, low, as_many))) (tells number low)) run.kept.mounted)
       as_many
 
   pub first : HaveNoGrants plan.table offers → stored.ended.start ≡ base_of plan.table
-  first none = first_start plan.table offers run.kept.records stored.epoch stored.ended.start mounted none
+  first none = first_start (λ place. place) plan.table offers run.kept.records stored.epoch stored.ended.start mounted none
 
   -- KEEPING
 
@@ -178,7 +178,7 @@ module _ {D : Type 0} (view : D → DiskView) (plan : ScriptPlan) (most : ℕ) (
 
   pub stands : AllTell plan.table.copies offers → (images : List (List ℕ)) → AreImages view stored.ended.disks.items images → ∥ IsStandingWithin 1 plan.table stored.ended.start stored.epoch (past_of stored) images ∥₁
   stands all_tell images left =
-      stand plan.table told run.kept.records stored.epoch stored.ended.start run.kept.mounted (past_of stored) images run.legal bounded (of_epoch stored.epoch (past_of stored) bounded run.begins.numbers)
+      stand (λ place. place) plan.table told run.kept.records stored.epoch stored.ended.start run.kept.mounted (past_of stored) images run.legal bounded (of_epoch stored.epoch (past_of stored) bounded run.begins.numbers)
       (images_kept plan.table (found told) view stored.ended.disks.items (past_of stored) images run.kept.kept run.kept.mounted.as_many
       (omega (arith, as_many_images 0 stored.ended.disks.items images left, run.kept.kept.many, run.kept.mounted.as_many))
       (λ number low. some_too (offers number) (told number) (tells number low) (all_tell number low))

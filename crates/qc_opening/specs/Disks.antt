@@ -11,8 +11,8 @@ use Rattle.qc_opening.specs.Numbered.{EachFrom}
 
 -- what the mounting of a disk writes behind the bodies that it finds: disk 0 is the ledger's, and each next one a copy's
 abbrev pub to_write : Table → ℕ → (List (List ℕ) → List (List ℕ))
-to_write table zero = ledger.to_write table
-to_write table (suc copy) = site.to_write copy table
+to_write table zero = ledger.to_write 0 table
+to_write table (suc copy) = site.to_write (suc copy) table
 
 module _ {D : Type 0} (view : D → DiskView) where
   -- disks from a number on tell what was offered at theirs, where that was told

@@ -18,27 +18,27 @@ module _ (table : Table) (limit : ℕ) where
   pub record IsSoundCopy (past : Past) (copy : ℕ) (image : List ℕ) : Type 0 where
     pub found : List (List ℕ)
     pub has : HasRecords found image
-    pub fine : site.AreMountableAsCopy copy table past limit found
+    pub fine : site.AreMountableAsCopy (copy + 1) table past limit found
 
   -- the first fault of the images of copies from a number on, behind a ledger's past
   abbrev pub IsCopiesFault : Past → BadImage → ℕ → List (List ℕ) → Type 0
   IsCopiesFault past bad copy [] = ⊥
   IsCopiesFault past bad copy (image ∷ images) =
-      ((bad.disk ≡ copy + 1) × ledger.IsFirstFault (site.IsCopyFault copy table past limit) bad.fault image)
+      ((bad.disk ≡ copy + 1) × ledger.IsFirstFault (site.IsCopyFault (copy + 1) table past limit) bad.fault image)
       ⊎ (IsSoundCopy past copy image × IsCopiesFault past bad (copy + 1) images)
 
   -- The ledger's image has no fault, and tells a past behind which the images of copies have this.
   pub record IsSoundLedger (image : List ℕ) (Behind : Past → Type 0) : Type 0 where
     pub found : List (List ℕ)
     pub has : HasRecords found image
-    pub fine : ledger.AreMountableAsLedger table limit found
+    pub fine : ledger.AreMountableAsLedger 0 table limit found
     pub behind : Behind (past_in found)
 
   -- the first fault of a store's images, the ledger's first and then each copy's
   abbrev pub IsFirstFault : BadImage → List (List ℕ) → Type 0
   IsFirstFault bad [] = ⊥
   IsFirstFault bad (image ∷ images) =
-      ((bad.disk ≡ 0) × ledger.IsFirstFault (ledger.IsLedgerFault table limit) bad.fault image)
+      ((bad.disk ≡ 0) × ledger.IsFirstFault (ledger.IsLedgerFault 0 table limit) bad.fault image)
       ⊎ IsSoundLedger image (λ past. IsCopiesFault past bad 0 images)
 
   -- a store's images have no fault

@@ -9,3 +9,4 @@ pub mod Refusing
 pub mod Obtained
 pub mod Mounted
 pub mod Mountings
+pub mod Pairs

@@ -29,21 +29,21 @@ copy_disk mounted = disk_of (copy.journal_of mounted)
 module _ {D : Type 0} {g : Ghosts D} (table : Table) where
   -- A ledger was mounted from a disk: what its records told before, and the epoch that it logged.
   pub record IsLedger (limit : ℕ) (disk : D) (mounted : Book D g) (past : Past) (epoch : ℕ) : Type 0 where
-    pub mounts : book.MountsLedger table limit (g.view disk).content (book.records_of mounted) past epoch
+    pub mounts : book.MountsLedger 0 table limit (g.view disk).content (book.records_of mounted) past epoch
     pub limit_is : limit_of (book.journal_of mounted) ≡ limit
     pub keeps : IsSome (g.view disk).content → Keeps (book.journal_of mounted) (book.records_of mounted)
-    pub disk_is : IsMounted g.view (ledger.to_write table) ⊥ disk (disk_of (book.journal_of mounted))
+    pub disk_is : IsMounted g.view (ledger.to_write 0 table) ⊥ disk (disk_of (book.journal_of mounted))
 
   -- A copy was mounted from a disk, behind a past: it starts with what its records restore.
   pub record IsCopy (past : Past) (limit number : ℕ) (disk : D) (mounted : Mounted D g) : Type 0 where
-    pub mounts : copy.MountsCopy number table past limit (g.view disk).content (copy.records_of mounted)
+    pub mounts : copy.MountsCopy (number + 1) table past limit (g.view disk).content (copy.records_of mounted)
     pub number_is : copy.copy_of mounted ≡ number
     pub copies : copy.copies_of mounted ≡ table.copies
     pub limit_is : limit_of (copy.journal_of mounted) ≡ limit
     pub up : IsUp (copy.journal_of mounted)
     pub start : start_of mounted ≡ restored_row past.tops (length table.records) (from_row (tuples_of_base table (base_in copy_base (copy.records_of mounted)))) (readings (grant_form table) (copy.records_of mounted))
     pub keeps : IsSome (g.view disk).content → Keeps (copy.journal_of mounted) (copy.records_of mounted)
-    pub disk_is : IsMounted g.view (site.to_write number table) ⊥ disk (copy_disk mounted)
+    pub disk_is : IsMounted g.view (site.to_write (number + 1) table) ⊥ disk (copy_disk mounted)
 
   -- copies were mounted from disks, one from each, in rising number from 0
   abbrev pub AreCopies : Past → ℕ → List D → List (Mounted D g) → Type 0

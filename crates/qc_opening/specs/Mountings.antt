@@ -1,4 +1,4 @@
--- What the mountings of a store's disks found: disk 0 is the ledger's, disk c + 1 copy c's.
+-- What the mountings of a store's disks found: at place 0 stands one of the ledger's, at place c + 1 one of copy c's.
 use Rattle.std.specs.Prelude.{ℕ, ◌≡◌, ◌+◌, ◌<◌, ◌≤◌, ◌^◌, ◌⊎◌, List, [], ◌∷◌, length, map, slice_index_or, All, Option, IfSome, IsSome}
 use Rattle.qc_codec.specs.Base.{base_in, copy_base, tuples_of_base}
 use Rattle.qc_codec.specs.Bodies as body
@@ -25,31 +25,12 @@ use Rattle.qc_system.specs.Left.{KeepsGrants, KeepsTops}
 abbrev pub AreBytes : List (List ℕ) → Type 0
 AreBytes bodies = All (λ (bytes : List ℕ). All (λ (byte : ℕ). byte < 256) bytes) bodies
 
--- A store was mounted over disks that told this: the ledger for an epoch, and each copy behind the ledger's past. Then they
--- have these records, and the copies start with what these restore.
-pub record IsMounted (table : Table) (told : ℕ → Option (List ℕ)) (records : ℕ → List (List ℕ)) (epoch : ℕ) (base : List (List Tuple)) : Type 0 where
-  pub past : Logs
-  pub limit : ℕ → ℕ
-  pub proper : (body.table 1).fits table
-  pub small : epoch < 2 ^ 32
-  pub bytes : (number : ℕ) → number ≤ table.copies → AreBytes (records number)
-  pub ledger : ledger.MountsLedger table (limit 0) (told 0) (records 0) past epoch
-  pub copies : (copy : ℕ) → copy < table.copies → copies.MountsCopy copy table past (limit (copy + 1)) (told (copy + 1)) (records (copy + 1))
-  pub as_many : length base ≡ table.copies
-  pub starts : (copy : ℕ) → copy < table.copies
-      → slice_index_or base copy [] ≡ restored_row past.tops (length table.records) (from_row (tuples_of_base table (base_in copy_base (records (copy + 1))))) (readings (grant_form table) (records (copy + 1)))
-
 -- Of each disk one image, which tells what the disk keeps of a history behind these records.
 pub record AreKept (table : Table) (base : List (List Tuple)) (records : ℕ → List (List ℕ)) (past : Past) (images : List (List ℕ)) : Type 0 where
   pub as_many : length images ≡ table.copies + 1
   pub ledger : ∥ KeepsTops (records 0) (λ image. image ≡ slice_index_or images 0 []) past ∥₁
   pub copies : (copy : ℕ) → copy < table.copies
       → ∥ KeepsGrants (setting_of table base) (length base) copy (records (copy + 1)) (λ image. image ≡ slice_index_or images (copy + 1) []) past ∥₁
-
--- The copies' disks told images on which no grant stands: they were empty, or of a store that was just made.
-abbrev pub HaveNoGrants : Table → (ℕ → Option (List ℕ)) → Type 0
-HaveNoGrants table told = (copy : ℕ) → copy < table.copies
-    → IsSome (told (copy + 1)) × IfSome (told (copy + 1)) (λ image. HasRecords [] image ⊎ IsCopyImage table copy (map first_tuple table.records) [] image)
 
 -- Tuples carry the serial machine's values after a history and the commits of tops that may come next.
 pub record CarryNext (table : Table) (values : List ℕ) (past : Past) (tuples : List (List Tuple)) : Type 0 where
@@ -64,13 +45,42 @@ pub record IsCutOff (written : List (List ℕ) → List (List ℕ)) (image later
   pub had : HasRecords found image
   pub has : ledger.HasSome found (written found) later
 
--- So is each image of a store's disks.
-pub record AreCutOff (table : Table) (images later : List (List ℕ)) : Type 0 where
-  pub as_many : length later ≡ table.copies + 1
-  pub ledger : IsCutOff (tops.to_write table) (slice_index_or images 0 []) (slice_index_or later 0 [])
-  pub copies : (copy : ℕ) → copy < table.copies → IsCutOff (grants.to_write copy table) (slice_index_or images (copy + 1) []) (slice_index_or later (copy + 1) [])
+-- the disk at each place has a number
+module _ (disk : ℕ → ℕ) where
+  -- A store was mounted over disks that told this: the ledger for an epoch, and each copy behind the ledger's past. Then they
+  -- have these records, and the copies start with what these restore.
+  pub record MountedOn (table : Table) (told : ℕ → Option (List ℕ)) (records : ℕ → List (List ℕ)) (epoch : ℕ) (base : List (List Tuple)) : Type 0 where
+    pub past : Logs
+    pub limit : ℕ → ℕ
+    pub proper : (body.table 1).fits table
+    pub small : epoch < 2 ^ 32
+    pub bytes : (place : ℕ) → place ≤ table.copies → AreBytes (records place)
+    pub ledger : ledger.MountsLedger (disk 0) table (limit 0) (told 0) (records 0) past epoch
+    pub copies : (copy : ℕ) → copy < table.copies → copies.MountsCopy (disk (copy + 1)) table past (limit (copy + 1)) (told (copy + 1)) (records (copy + 1))
+    pub as_many : length base ≡ table.copies
+    pub starts : (copy : ℕ) → copy < table.copies
+        → slice_index_or base copy [] ≡ restored_row past.tops (length table.records) (from_row (tuples_of_base table (base_in copy_base (records (copy + 1))))) (readings (grant_form table) (records (copy + 1)))
 
--- Mountings one after another were cut off, which left these images in turn, and then the last ones.
-abbrev pub AreLeft : Table → List (List ℕ) → List (List (List ℕ)) → List (List ℕ) → Type 0
-AreLeft table images [] last = last ≡ images
-AreLeft table images (next ∷ later) last = AreCutOff table images next × AreLeft table next later last
+  -- The copies' disks told images on which no grant stands: they were empty, or of a store that was just made.
+  abbrev pub HaveNoGrantsOn : Table → (ℕ → Option (List ℕ)) → Type 0
+  HaveNoGrantsOn table told = (copy : ℕ) → copy < table.copies
+      → IsSome (told (copy + 1)) × IfSome (told (copy + 1)) (λ image. HasRecords [] image ⊎ IsCopyImage table (map first_tuple table.records) [] (disk (copy + 1)) image)
+
+  -- Each image of a store's disks is left so of another.
+  pub record AreCutOffOn (table : Table) (images later : List (List ℕ)) : Type 0 where
+    pub as_many : length later ≡ table.copies + 1
+    pub ledger : IsCutOff (tops.to_write (disk 0) table) (slice_index_or images 0 []) (slice_index_or later 0 [])
+    pub copies : (copy : ℕ) → copy < table.copies
+        → IsCutOff (grants.to_write (disk (copy + 1)) table) (slice_index_or images (copy + 1) []) (slice_index_or later (copy + 1) [])
+
+  -- Mountings one after another were cut off, which left these images in turn, and then the last ones.
+  abbrev pub AreLeftOn : Table → List (List ℕ) → List (List (List ℕ)) → List (List ℕ) → Type 0
+  AreLeftOn table images [] last = last ≡ images
+  AreLeftOn table images (next ∷ later) last = AreCutOffOn table images next × AreLeftOn table next later last
+
+-- the disk at each place is the one of that number
+abbrev pub IsMounted : Table → (ℕ → Option (List ℕ)) → (ℕ → List (List ℕ)) → ℕ → List (List Tuple) → Type 0
+IsMounted = MountedOn (λ place. place)
+
+abbrev pub HaveNoGrants : Table → (ℕ → Option (List ℕ)) → Type 0
+HaveNoGrants = HaveNoGrantsOn (λ place. place)

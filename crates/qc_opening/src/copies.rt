@@ -35,9 +35,9 @@ fn mount_copy<D: Disk>(
         (λ disk. IsCopy table.now past.now limit copy disk mounted)
         (waiting_in waiting.old) (waiting_in waiting.new)) }
     ensures refused { IfErr result (λ reason. GoesBack (λ before after.
-        IsMounted D.view (to_write copy table.now) (FailedAt reason (copy + 1)) before after
+        IsMounted D.view (to_write (copy + 1) table.now) (FailedAt reason (copy + 1)) before after
         × IsReasonAt (copy + 1) (λ fault. IfSome (D.view before).content
-        (IsFirstFault (IsCopyFault copy table.now past.now limit) fault)) reason)
+        (IsFirstFault (IsCopyFault (copy + 1) table.now past.now limit) fault)) reason)
         (waiting_in waiting.old) (waiting_in waiting.new)) }
     ensures room { room_in waiting.new ≡ room_in waiting.old }
 {

@@ -29,9 +29,9 @@ pub(crate) fn mount_ledger<D: Disk>(
         (λ disk. IsLedger table.now limit disk mounted.0 mounted.1 mounted.2)
         (waiting_in waiting.old) (waiting_in waiting.new)) }
     ensures refused { IfErr result (λ reason. GoesBack (λ before after.
-        IsMounted D.view (to_write table.now) (FailedAt reason 0) before after
+        IsMounted D.view (to_write 0 table.now) (FailedAt reason 0) before after
         × IsReasonAt 0 (λ fault. IfSome (D.view before).content
-        (IsFirstFault (IsLedgerFault table.now limit) fault)) reason)
+        (IsFirstFault (IsLedgerFault 0 table.now limit) fault)) reason)
         (waiting_in waiting.old) (waiting_in waiting.new)) }
     ensures room { room_in waiting.new ≡ room_in waiting.old }
 {

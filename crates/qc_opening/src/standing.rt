@@ -6,12 +6,13 @@ ghost use Rattle.qc_event.specs.History.{Past, limit};
 ghost use Rattle.qc_event.specs.Legal.{Legal};
 ghost use Rattle.qc_event.specs.Sound.{IsSound};
 ghost use Rattle.qc_event.specs.Tables.{base_of, setting_of};
-ghost use Rattle.qc_refine.specs.Images.{IsStandingWithin, Restores};
+ghost use Rattle.qc_refine.specs.Images.{Restores, StandOnWithin};
 ghost use Rattle.qc_refine.specs.Standing.{IsOfEpoch};
-ghost use Rattle.qc_opening.specs.Mountings.{AreCutOff, AreKept, AreLeft, CarryNext, HaveNoGrants, IsMounted};
+ghost use Rattle.qc_opening.specs.Mountings.{AreCutOffOn, AreKept, AreLeftOn, CarryNext, HaveNoGrantsOn, MountedOn};
 
 /// A store is mounted, and runs from what its disks restore. Its history is legal, is no longer than a desk's may be, and
 /// has tops of the mounting's epoch alone. Each disk keeps, behind the records of the mounting, what the history tells.
+/// At each place stands a disk of some number: one of the ledger's or of a copy's.
 ///
 /// Then images of these disks, one of each, stand beside the history, each with at most one record that it does not tell
 /// yet (`stands`). Mountings over them may be cut off, any
@@ -20,31 +21,32 @@ ghost use Rattle.qc_opening.specs.Mountings.{AreCutOff, AreKept, AreLeft, CarryN
 /// (`restores`), and one that is cut off leaves images that restore the same (`cut_off`). A mounting over disks that are
 /// empty, or of a store that was just made, starts with the table's own tuples (`first`).
 pub fn kept_disks_stand()
-    ensures stands { (table : Table) (told : ℕ → Option (List ℕ)) (records : ℕ → List (List ℕ))
-        → (epoch : ℕ) (base : List (List Tuple)) → IsMounted table told records epoch base
-        → (past : Past) (images : List (List ℕ))
+    ensures stands { (disk : ℕ → ℕ) (table : Table) (told : ℕ → Option (List ℕ))
+        → (records : ℕ → List (List ℕ)) (epoch : ℕ) (base : List (List Tuple))
+        → MountedOn disk table told records epoch base → (past : Past) (images : List (List ℕ))
         → Legal (setting_of table base) past → length past ≤ limit → IsOfEpoch epoch past
         → AreKept table base records past images
-        → ∥ IsStandingWithin 1 table base epoch past images ∥₁ }
-    ensures restarts { (table : Table) (told : ℕ → Option (List ℕ))
+        → ∥ StandOnWithin disk 1 table base epoch past images ∥₁ }
+    ensures restarts { (disk : ℕ → ℕ) (table : Table) (told : ℕ → Option (List ℕ))
         → (records later_records : ℕ → List (List ℕ)) (epoch later_epoch : ℕ)
         → (base later_base : List (List Tuple)) (past : Past) (images last : List (List ℕ))
         → (later : List (List (List ℕ))) (values : List ℕ)
-        → IsMounted table told records epoch base
+        → MountedOn disk table told records epoch base
         → Legal (setting_of table base) past → length past ≤ limit → IsOfEpoch epoch past
         → AreKept table base records past images → IsSound (setting_of table base) values
-        → AreLeft table images later last
-        → IsMounted table (λ number. Some (slice_index_or last number [])) later_records
+        → AreLeftOn disk table images later last
+        → MountedOn disk table (λ number. Some (slice_index_or last number [])) later_records
         later_epoch later_base
         → ∥ CarryNext table values past later_base ∥₁ }
-    ensures restores { (table : Table) (images : List (List ℕ)) (records : ℕ → List (List ℕ))
-        → (epoch : ℕ) (base : List (List Tuple))
-        → IsMounted table (λ number. Some (slice_index_or images number [])) records epoch base
+    ensures restores { (disk : ℕ → ℕ) (table : Table) (images : List (List ℕ))
+        → (records : ℕ → List (List ℕ)) (epoch : ℕ) (base : List (List Tuple))
+        → MountedOn disk table (λ number. Some (slice_index_or images number [])) records epoch base
         → length images ≡ table.copies + 1 → Restores table images base }
-    ensures cut_off { (table : Table) (images later : List (List ℕ)) → AreCutOff table images later
-        → (tuples : List (List Tuple)) → Restores table images tuples
-        → Restores table later tuples }
-    ensures first { (table : Table) (told : ℕ → Option (List ℕ)) (records : ℕ → List (List ℕ))
-        → (epoch : ℕ) (base : List (List Tuple)) → IsMounted table told records epoch base
-        → HaveNoGrants table told → base ≡ base_of table }
+    ensures cut_off { (disk : ℕ → ℕ) (table : Table) (images later : List (List ℕ))
+        → AreCutOffOn disk table images later → (tuples : List (List Tuple))
+        → Restores table images tuples → Restores table later tuples }
+    ensures first { (disk : ℕ → ℕ) (table : Table) (told : ℕ → Option (List ℕ))
+        → (records : ℕ → List (List ℕ)) (epoch : ℕ) (base : List (List Tuple))
+        → MountedOn disk table told records epoch base → HaveNoGrantsOn disk table told
+        → base ≡ base_of table }
 {}

@@ -1,5 +1,5 @@
 -- An image of a copy's disk tells what was found there, and what the copy granted since.
-use Rattle.std.proofs.Common.{◌≡◌, inl, inr, ℕ, ◌+◌, ◌≤◌, List, [], ◌∷◌, ◌++◌, length, refl, sym, ap₂, ◌∙◌, subst, append-nil, arith}
+use Rattle.std.proofs.Common.{◌≡◌, inl, inr, ℕ, ◌≤◌, List, [], ◌∷◌, ◌++◌, length, refl, sym, ap₂, ◌∙◌, subst, append-nil, arith}
 use Rattle.std.specs.Prelude.{map, is_some, true, Option, None, Some, IfSome, MatchOption, option_to_list}
 use Rattle.std.specs.List.{All}
 use Rattle.std.proofs.lemmas.List.Elements.{All-nil, All-cons, All-append, All-weaker}
@@ -51,20 +51,20 @@ untold_grant setting past copy g may = record { asked = has_asked (asked past g.
 
 -- AN IMAGE
 
-module _ (setting : Setting) (table : Table) (copies copy : ℕ) (before : List (List ℕ)) (begin : List Tuple) (old : List Grant) (past : Past) (image : List ℕ) where
-  -- What an image tells behind older grants: the copy's grants of the history, and at most one that is untold.
+module _ (setting : Setting) (table : Table) (copies copy disk : ℕ) (before : List (List ℕ)) (begin : List Tuple) (old : List Grant) (past : Past) (image : List ℕ) where
+  -- What an image of this disk tells behind older grants: the copy's grants of the history, and at most one that is untold.
   pub record Tells : Type 0 where
     pub untold : List Grant
     pub are : All (IsUntold past) untold
     pub few : length untold ≤ 1
     pub asked : All (IsAskedOf past copy) untold
-    pub is_image : IsCopyImage table copy begin (old ++ (grants past copy ++ untold)) image
+    pub is_image : IsCopyImage table begin (old ++ (grants past copy ++ untold)) disk image
 
-  module _ (copies_are : copies ≡ table.copies) (are : IsCopyBodies table begin old (copy + 1) before) where
-    bodies_are : (given : List Grant) → before ++ map (grant_body copies) given ≡ body.made.spell (made_for (copy + 1) table) ∷ (map (copy_base table).spell (option_to_list are.base) ++ map (grant_form table).spell (old ++ given))
+  module _ (copies_are : copies ≡ table.copies) (are : IsCopyBodies table begin old disk before) where
+    bodies_are : (given : List Grant) → before ++ map (grant_body copies) given ≡ body.made.spell (made_for disk table) ∷ (map (copy_base table).spell (option_to_list are.base) ++ map (grant_form table).spell (old ++ given))
     bodies_are given =
         ap₂ (λ (b : List (List ℕ)) (n : ℕ). b ++ map (grant_body n) given) are.are copies_are
-        ∙ append_mapped (grant_form table).spell (body.made.spell (made_for (copy + 1) table)) (map (copy_base table).spell (option_to_list are.base)) old given
+        ∙ append_mapped (grant_form table).spell (body.made.spell (made_for disk table)) (map (copy_base table).spell (option_to_list are.base)) old given
 
     tells : (given more : List Grant) → given ≡ grants past copy ++ more → All (MayGrant setting past (copy_seat copy) copy) more → length more ≤ 1 → All (body.grant (format_1 copies)).fits given → HasRecords (before ++ map (grant_body copies) given) image → Tells
     tells given more same may few fits has = record {
@@ -72,7 +72,7 @@ module _ (setting : Setting) (table : Table) (copies copy : ℕ) (before : List 
       are = All-weaker (MayGrant setting past (copy_seat copy) copy) (IsUntold past) (untold_grant setting past copy) more may;
       few = few;
       asked = All-weaker (MayGrant setting past (copy_seat copy) copy) (IsAskedOf past copy) (λ g is. is.request) more may;
-      is_image = subst (λ (gs : List Grant). IsCopyImage table copy begin (old ++ gs) image) same (record {
+      is_image = subst (λ (gs : List Grant). IsCopyImage table begin (old ++ gs) disk image) same (record {
         bodies = before ++ map (grant_body copies) given;
         tells = record {
           base = are.base;

@@ -1,5 +1,5 @@
 -- The bodies of a mounted copy's disk spell how it was made, with what it begins, and what the copy granted.
-use Rattle.std.proofs.Common.{◌≡◌, ℕ, ◌+◌, ◌<◌, ◌≤◌, inl, inr, List, [], ◌∷◌, ◌++◌, length, get_or, refl, sym, ap, ap₂, ◌∙◌, subst, arith, append-nil}
+use Rattle.std.proofs.Common.{◌≡◌, ℕ, ◌+◌, ◌≤◌, inl, inr, List, [], ◌∷◌, ◌++◌, length, get_or, refl, sym, ap, ap₂, ◌∙◌, subst, arith, append-nil}
 use Rattle.std.specs.Prelude.{map, Option, None, Some, MatchOption, option_to_list}
 use Rattle.std.specs.List.{All}
 use Rattle.std.proofs.lemmas.List.Elements.{All-nil, All-cons, All-append, All-head, All-tail}
@@ -22,18 +22,18 @@ use Rattle.qc_refine.specs.Images.{IsCopyBodies}
 use Rattle.qc_refine.proofs.Restoring.ImageReadings.{copy_told, exact_copy_base}
 use Rattle.qc_site.specs.Image.{AreGranted, made_body, to_write}
 use Rattle.qc_site.specs.Mounted.{MountsCopy}
-use Rattle.qc_opening.proofs.KeptDisks.InOrder.{Bytes, are_bytes, each_holds}
+use Rattle.qc_opening.proofs.KeptDisks.InOrder.{Bytes, are_bytes, each_holds, made_of_bytes}
 use Rattle.qc_refine.proofs.Order.DonesWalk.{all_front}
 use Rattle.qc_opening.proofs.KeptDisks.Lists.{append_mapped}
 
-module _ (copy : ℕ) (table : Table) (past : Past) where
+module _ (disk : ℕ) (table : Table) (past : Past) where
   -- the access of a grant stands below a top of the ledger's last epoch or an earlier one
   abbrev pub IsOfOld : Grant → Type 0
   IsOfOld g = IsOld (past.epoch + 1) g.access
 
-  -- Bodies spell how the copy's disk was made, with what it begins, and then these grants.
+  -- Bodies spell how the disk was made, with what it begins, and then these grants.
   pub record Spell (begin : List Tuple) (granted : List Grant) (bodies : List (List ℕ)) : Type 0 where
-    pub tells : IsCopyBodies table begin granted (copy + 1) bodies
+    pub tells : IsCopyBodies table begin granted disk bodies
     pub are_old : All IsOfOld granted
 
   -- bodies spell some grants
@@ -43,7 +43,7 @@ module _ (copy : ℕ) (table : Table) (past : Past) where
   -- what bodies spell is what is read of them
   as_read : (begin : List Tuple) (granted : List Grant) (bodies : List (List ℕ)) → Spell begin granted bodies → Spell (tuples_of_base table (base_in copy_base bodies)) (readings (grant_form table) bodies) bodies
   as_read begin granted bodies s =
-      let told = copy_told table begin granted (copy + 1) bodies s.tells in
+      let told = copy_told table begin granted disk bodies s.tells in
       subst (λ (b : List Tuple). Spell b (readings (grant_form table) bodies) bodies) (sym told.1) (subst (λ (gs : List Grant). Spell begin gs bodies) (sym told.0) s)
 
   -- ONE MORE
@@ -60,7 +60,7 @@ module _ (copy : ℕ) (table : Table) (past : Past) where
           grants_fit = All-append (grant_form table).fits granted (g ∷ []) t.grants_fit (All-cons (grant_form table).fits g [] fits (All-nil (grant_form table).fits));
           are =
               ap₂ (λ (f : List (List ℕ)) (b : List ℕ). f ++ b ∷ []) t.are is
-              ∙ append_mapped (grant_form table).spell (body.made.spell (made_for (copy + 1) table)) (map (copy_base table).spell (option_to_list t.base)) granted (g ∷ []);
+              ∙ append_mapped (grant_form table).spell (body.made.spell (made_for disk table)) (map (copy_base table).spell (option_to_list t.base)) granted (g ∷ []);
         };
         are_old = All-append IsOfOld granted (g ∷ []) s.are_old (All-cons IsOfOld g [] old (All-nil IsOfOld));
       }
@@ -73,7 +73,7 @@ module _ (copy : ℕ) (table : Table) (past : Past) where
       (begin, granted ++ g ∷ [], add front bytes begin granted g s one.0 one.1 may.1)
 
   -- a base behind the made record
-  behind : (first bytes : List ℕ) (o : Option BaseRecord) → first ≡ body.made.spell (made_for (copy + 1) table) → body.made.fits (made_for (copy + 1) table) → all_of (copy_base table) bytes ≡ o → IsBytes bytes
+  behind : (first bytes : List ℕ) (o : Option BaseRecord) → first ≡ body.made.spell (made_for disk table) → body.made.fits (made_for disk table) → all_of (copy_base table) bytes ≡ o → IsBytes bytes
       → MatchOption o ⊥ (λ (b : BaseRecord). b.epoch ≤ past.epoch) → AreSpelled (first ∷ bytes ∷ [])
   behind first bytes None is made_fits reads fit low = absurd low
   behind first bytes (Some b) is made_fits reads fit low =
@@ -93,51 +93,46 @@ module _ (copy : ℕ) (table : Table) (past : Past) where
         },
       )
 
-  longer : (front : List (List ℕ)) (bytes : List ℕ) → AreSpelled front → MayStand copy table past front bytes → IsBytes bytes → AreSpelled (front ++ bytes ∷ [])
+  longer : (front : List (List ℕ)) (bytes : List ℕ) → AreSpelled front → MayStand disk table past front bytes → IsBytes bytes → AreSpelled (front ++ bytes ∷ [])
   longer [] bytes (begin, granted, s) may fit = absurd (omega (arith, ap length s.tells.are))
   longer (first ∷ []) bytes (begin, granted, s) (inl base) fit =
-      let is : first ≡ body.made.spell (made_for (copy + 1) table) = ap (λ (bs : List (List ℕ)). get_or bs 0 []) s.tells.are in
+      let is : first ≡ body.made.spell (made_for disk table) = ap (λ (bs : List (List ℕ)). get_or bs 0 []) s.tells.are in
       behind first bytes (all_of (copy_base table) bytes) is s.tells.made_fits refl fit
       (subst (λ (o : Option BaseRecord). MatchOption o ⊥ (λ b. b.epoch ≤ past.epoch))
-      (ap (λ (f : List ℕ). base_in copy_base (f ∷ bytes ∷ [])) is ∙ base_behind copy_base (made_for (copy + 1) table) bytes [] s.tells.made_fits) base)
+      (ap (λ (f : List ℕ). base_in copy_base (f ∷ bytes ∷ [])) is ∙ base_behind copy_base (made_for disk table) bytes [] s.tells.made_fits) base)
   longer (first ∷ []) bytes (begin, granted, s) (inr may) fit = follow (first ∷ []) bytes begin granted (all_of (grant_form table) bytes) s refl fit may
   longer (first ∷ second ∷ front) bytes (begin, granted, s) may fit = follow (first ∷ second ∷ front) bytes begin granted (all_of (grant_form table) bytes) s refl fit may
 
   -- A MOUNTED COPY
 
-  module _ (made_fits : body.made.fits (made_for (copy + 1) table)) where
-    made_alone : (first : List ℕ) → first ≡ body.made.spell (made_for (copy + 1) table) → AreSpelled (first ∷ [])
-    made_alone first is = (
-      map first_tuple table.records,
-      [],
-      record {
-        tells = record {
-          base = None;
-          begin_is = refl;
-          made_fits = made_fits;
-          base_fits = All-nil (copy_base table).fits;
-          grants_fit = All-nil (grant_form table).fits;
-          are = ap (λ (b : List ℕ). b ∷ []) is;
-        };
-        are_old = All-nil IsOfOld;
-      },
-    )
+  made_alone : (first : List ℕ) → first ≡ body.made.spell (made_for disk table) → body.made.fits (made_for disk table) → AreSpelled (first ∷ [])
+  made_alone first is fits = (
+    map first_tuple table.records,
+    [],
+    record {
+      tells = record {
+        base = None;
+        begin_is = refl;
+        made_fits = fits;
+        base_fits = All-nil (copy_base table).fits;
+        grants_fit = All-nil (grant_form table).fits;
+        are = ap (λ (b : List ℕ). b ∷ []) is;
+      };
+      are_old = All-nil IsOfOld;
+    },
+  )
 
-    -- a mounted copy's disk has what was found on it, where nothing stood there how it was made
-    by_found : (found : List (List ℕ)) → AreGranted copy table past found → All Bytes found → AreSpelled (found ++ to_write copy table found)
-    by_found [] granted fit = made_alone (made_body copy table) refl
-    by_found (first ∷ rest) granted fit =
-        let one = all_takes body.made exact_made first (made_for (copy + 1) table) (are_bytes first (All-head Bytes first rest fit)) granted.made in
-        subst AreSpelled (sym (append-nil (first ∷ rest)))
-        (each_holds (MayStand copy table past) AreSpelled longer (first ∷ []) rest (made_alone first one.0) granted.order (All-tail Bytes first rest fit))
+  -- a mounted copy's disk has what was found on it, where nothing stood there how it was made
+  by_found : (found : List (List ℕ)) → (body.table 1).fits table → AreGranted disk table past found → All Bytes (found ++ to_write disk table found) → AreSpelled (found ++ to_write disk table found)
+  by_found [] proper granted fit = made_alone (made_body disk table) refl (made_of_bytes disk table proper (All-head Bytes (made_body disk table) [] fit))
+  by_found (first ∷ rest) proper granted fit =
+      let found_fit = all_front Bytes (first ∷ rest) [] fit in
+      let one = all_takes body.made exact_made first (made_for disk table) (are_bytes first (All-head Bytes first rest found_fit)) granted.made in
+      subst AreSpelled (sym (append-nil (first ∷ rest)))
+      (each_holds (MayStand disk table past) AreSpelled longer (first ∷ []) rest (made_alone first one.0 one.1) granted.order (All-tail Bytes first rest found_fit))
 
-    pub mounted : (limit : ℕ) (told : Option (List ℕ)) (records : List (List ℕ)) → MountsCopy copy table past limit told records → All Bytes records
-        → Spell (tuples_of_base table (base_in copy_base records)) (readings (grant_form table) records) records
-    mounted limit told records m fit =
-        let (begin, granted, s) = subst AreSpelled (sym m.all) (by_found m.found m.granted (all_front Bytes m.found (to_write copy table m.found) (subst (All Bytes) m.all fit))) in
-        as_read begin granted records s
-
--- a proper table's copies have made records
-pub made_fits : (table : Table) (copy : ℕ) → (body.table 1).fits table → copy < 255 → body.made.fits (made_for (copy + 1) table)
-unfolding body.made body.making
-made_fits table copy proper small = ((omega (arith, small), proper), tt)
+  pub mounted : (limit : ℕ) (told : Option (List ℕ)) (records : List (List ℕ)) → (body.table 1).fits table → MountsCopy disk table past limit told records → All Bytes records
+      → Spell (tuples_of_base table (base_in copy_base records)) (readings (grant_form table) records) records
+  mounted limit told records proper m fit =
+      let (begin, granted, s) = subst AreSpelled (sym m.all) (by_found m.found proper m.granted (subst (All Bytes) m.all fit)) in
+      as_read begin granted records s

@@ -25,7 +25,7 @@ use Rattle.qc_ledger.specs.Image as tops
 use Rattle.qc_refine.specs.Images.{Restores, first_of, kept_in}
 use Rattle.qc_refine.specs.Restored.{restored}
 use Rattle.qc_site.specs.Image as grants
-use Rattle.qc_opening.specs.Mountings.{AreCutOff, AreLeft}
+use Rattle.qc_opening.specs.Mountings.{AreCutOffOn, AreLeftOn}
 use Rattle.qc_refine.proofs.Restoring.ImageReadings.{made_told}
 use Rattle.qc_refine.proofs.Order.DonesWalk.{all_front}
 
@@ -49,17 +49,17 @@ no_top to none (Some x) = by_test (length x.1 == 0)
 abbrev TellsNoTop : List ℕ → Type 0
 TellsNoTop bytes = filter_map logged_in (readings body.ledger (bytes ∷ [])) ≡ []
 
-made_no_top : (table : Table) → TellsNoTop (tops.made_body table)
+made_no_top : (disk : ℕ) (table : Table) → TellsNoTop (tops.made_body disk table)
 unfolding body.ledger
-made_no_top table = no_top Made (λ m. refl) (body.making.taken (body.making.spell (made_for 0 table)))
+made_no_top disk table = no_top Made (λ m. refl) (body.making.taken (body.making.spell (made_for disk table)))
 
 epoch_no_top : (epoch : ℕ) → TellsNoTop (tops.epoch_body epoch)
 unfolding body.ledger
 epoch_no_top epoch = no_top Epoch (λ e. refl) (some_number.taken (some_number.spell epoch))
 
-written_no_tops : (table : Table) (found : List (List ℕ)) → All TellsNoTop (tops.to_write table found)
-written_no_tops table [] = All-cons TellsNoTop (tops.made_body table) (tops.epoch_body 1 ∷ []) (made_no_top table) (All-cons TellsNoTop (tops.epoch_body 1) [] (epoch_no_top 1) (All-nil TellsNoTop))
-written_no_tops table (first ∷ rest) = All-cons TellsNoTop (tops.epoch_body _) [] (epoch_no_top _) (All-nil TellsNoTop)
+written_no_tops : (disk : ℕ) (table : Table) (found : List (List ℕ)) → All TellsNoTop (tops.to_write disk table found)
+written_no_tops disk table [] = All-cons TellsNoTop (tops.made_body disk table) (tops.epoch_body 1 ∷ []) (made_no_top disk table) (All-cons TellsNoTop (tops.epoch_body 1) [] (epoch_no_top 1) (All-nil TellsNoTop))
+written_no_tops disk table (first ∷ rest) = All-cons TellsNoTop (tops.epoch_body _) [] (epoch_no_top _) (All-nil TellsNoTop)
 
 all_no_top : (bodies : List (List ℕ)) → All TellsNoTop bodies → tops_in bodies ≡ []
 all_no_top [] none = refl
@@ -69,30 +69,30 @@ all_no_top (b ∷ bodies) none =
     ∙ ap₂ (λ (x y : List Logged). x ++ y) (All-head TellsNoTop b bodies none) (all_no_top bodies (All-tail TellsNoTop b bodies none))
 
 -- behind bodies, some first ones of what a mounting writes tell no top
-pub same_tops : (table : Table) (found first rest : List (List ℕ)) → tops.to_write table found ≡ first ++ rest → tops_in (found ++ first) ≡ tops_in found
-same_tops table found first rest split =
+pub same_tops : (disk : ℕ) (table : Table) (found first rest : List (List ℕ)) → tops.to_write disk table found ≡ first ++ rest → tops_in (found ++ first) ≡ tops_in found
+same_tops disk table found first rest split =
     ap (filter_map logged_in) (filter_map-append (all_of body.ledger) found first)
     ∙ filter_map-append logged_in (readings body.ledger found) (readings body.ledger first)
-    ∙ ap (λ (l : List Logged). tops_in found ++ l) (all_no_top first (all_front TellsNoTop first rest (subst (All TellsNoTop) split (written_no_tops table found))))
+    ∙ ap (λ (l : List Logged). tops_in found ++ l) (all_no_top first (all_front TellsNoTop first rest (subst (All TellsNoTop) split (written_no_tops disk table found))))
     ∙ append-nil (tops_in found)
 
 -- nor a grant
-pub same_grants : (copy : ℕ) (table : Table) (found first rest : List (List ℕ)) → grants.to_write copy table found ≡ first ++ rest → readings (grant_form table) (found ++ first) ≡ readings (grant_form table) found
-same_grants copy table found [] rest split = ap (readings (grant_form table)) (append-nil found)
-same_grants copy table [] (b ∷ []) rest split = let same : grants.made_body copy table ≡ b = cc in ap (λ (x : List ℕ). readings (grant_form table) (x ∷ [])) (sym same) ∙ made_told table (made_for (copy + 1) table) []
-same_grants copy table [] (b ∷ c ∷ first) rest split = absurd cc
-same_grants copy table (x ∷ found) (b ∷ first) rest split = absurd cc
+pub same_grants : (disk : ℕ) (table : Table) (found first rest : List (List ℕ)) → grants.to_write disk table found ≡ first ++ rest → readings (grant_form table) (found ++ first) ≡ readings (grant_form table) found
+same_grants disk table found [] rest split = ap (readings (grant_form table)) (append-nil found)
+same_grants disk table [] (b ∷ []) rest split = let same : grants.made_body disk table ≡ b = cc in ap (λ (x : List ℕ). readings (grant_form table) (x ∷ [])) (sym same) ∙ made_told table (made_for disk table) []
+same_grants disk table [] (b ∷ c ∷ first) rest split = absurd cc
+same_grants disk table (x ∷ found) (b ∷ first) rest split = absurd cc
 
 -- nor a base, where none is
-pub same_base : (copy : ℕ) (table : Table) (found first rest : List (List ℕ)) → grants.to_write copy table found ≡ first ++ rest → base_in copy_base (found ++ first) ≡ base_in copy_base found
-same_base copy table found [] rest split = ap (base_in copy_base) (append-nil found)
-same_base copy table [] (b ∷ []) rest split = refl
-same_base copy table [] (b ∷ c ∷ first) rest split = absurd cc
-same_base copy table (x ∷ found) (b ∷ first) rest split = absurd cc
+pub same_base : (disk : ℕ) (table : Table) (found first rest : List (List ℕ)) → grants.to_write disk table found ≡ first ++ rest → base_in copy_base (found ++ first) ≡ base_in copy_base found
+same_base disk table found [] rest split = ap (base_in copy_base) (append-nil found)
+same_base disk table [] (b ∷ []) rest split = refl
+same_base disk table [] (b ∷ c ∷ first) rest split = absurd cc
+same_base disk table (x ∷ found) (b ∷ first) rest split = absurd cc
 
 -- IMAGES
 
-module _ (table : Table) (images later : List (List ℕ)) (cut : AreCutOff table images later) where
+module _ (disk : ℕ → ℕ) (table : Table) (images later : List (List ℕ)) (cut : AreCutOffOn disk table images later) where
   read : (number : ℕ) → (bodies : List (List ℕ)) × HasRecords bodies (get_or later number [])
   read zero = (cut.ledger.found ++ cut.ledger.has.first, cut.ledger.has.has)
   read (suc copy) = elim (cases_lt copy table.copies) [
@@ -105,19 +105,19 @@ module _ (table : Table) (images later : List (List ℕ)) (cut : AreCutOff table
     unfolding read
     tops_same =
         let c = cut.ledger in
-        ap tops_in (records-same (get_or images 0 []) c.found (r.bodies 0) c.had (r.has 0)) ∙ sym (same_tops table c.found c.has.first c.has.rest c.has.split)
+        ap tops_in (records-same (get_or images 0 []) c.found (r.bodies 0) c.had (r.has 0)) ∙ sym (same_tops (disk 0) table c.found c.has.first c.has.rest c.has.split)
 
     -- a copy's bodies are read alike, by what tells the same with some first ones of what a mounting writes
-    alike : {A : Type 0} (tell : List (List ℕ) → A) → ((copy : ℕ) (found first rest : List (List ℕ)) → grants.to_write copy table found ≡ first ++ rest → tell (found ++ first) ≡ tell found)
+    alike : {A : Type 0} (tell : List (List ℕ) → A) → ((number : ℕ) (found first rest : List (List ℕ)) → grants.to_write number table found ≡ first ++ rest → tell (found ++ first) ≡ tell found)
         → (copy : ℕ) → copy < table.copies → tell (r.bodies (copy + 1)) ≡ tell (read (copy + 1)).0
     alike tell same copy there =
         let c = cut.copies copy there in
         ap tell (records-same (get_or images (copy + 1) []) c.found (r.bodies (copy + 1)) c.had (r.has (copy + 1)))
-        ∙ sym (same copy c.found c.has.first c.has.rest c.has.split)
+        ∙ sym (same (disk (copy + 1)) c.found c.has.first c.has.rest c.has.split)
         ∙ ap tell (records-same (get_or later (copy + 1) []) (read (copy + 1)).0 (c.found ++ c.has.first) (read (copy + 1)).1 c.has.has)
 
     -- so are those of all copies
-    all_alike : {A : Type 0} (tell : List (List ℕ) → A) → A → ((copy : ℕ) (found first rest : List (List ℕ)) → grants.to_write copy table found ≡ first ++ rest → tell (found ++ first) ≡ tell found)
+    all_alike : {A : Type 0} (tell : List (List ℕ) → A) → A → ((number : ℕ) (found first rest : List (List ℕ)) → grants.to_write number table found ≡ first ++ rest → tell (found ++ first) ≡ tell found)
         → map (λ copy. tell (r.bodies (copy + 1))) (range_with_len 0 table.copies) ≡ map (λ copy. tell (read (copy + 1)).0) (range_with_len 0 table.copies)
     all_alike tell default same =
         fill_by_all (λ copy. tell (read (copy + 1)).0) (map (λ copy. tell (r.bodies (copy + 1))) (range_with_len 0 table.copies)) table.copies default
@@ -125,10 +125,10 @@ module _ (table : Table) (images later : List (List ℕ)) (cut : AreCutOff table
         (λ copy there. get_or-map-range_with_len (λ c. tell (r.bodies (c + 1))) 0 table.copies copy copy default there (omega arith) ∙ alike tell same copy there)
 
     granted_same : (kept_in table r.bodies).granted ≡ (kept_in table (λ number. (read number).0)).granted
-    granted_same = all_alike (readings (grant_form table)) [] (λ copy. same_grants copy table)
+    granted_same = all_alike (readings (grant_form table)) [] (λ number. same_grants number table)
 
     first_same : first_of table r.bodies ≡ first_of table (λ number. (read number).0)
-    first_same = all_alike (λ bodies. tuples_of_base table (base_in copy_base bodies)) [] (λ copy found first rest split. ap (tuples_of_base table) (same_base copy table found first rest split))
+    first_same = all_alike (λ bodies. tuples_of_base table (base_in copy_base bodies)) [] (λ number found first rest split. ap (tuples_of_base table) (same_base number table found first rest split))
 
     -- what is restored is the same
     pub still_restored : Restores table later tuples
@@ -142,10 +142,11 @@ module _ (table : Table) (images later : List (List ℕ)) (cut : AreCutOff table
     }
 
 -- so it is after any number of them
-pub left_restored : (table : Table) (images last : List (List ℕ)) (later : List (List (List ℕ))) → AreLeft table images later last → (tuples : List (List Tuple)) → Restores table images tuples → Restores table last tuples
-left_restored table images last [] left tuples r = subst (λ is. Restores table is tuples) (sym left) r
-left_restored table images last (next ∷ later) left tuples r = left_restored table next last later left.1 tuples (still_restored table images next left.0 tuples r)
+module _ (disk : ℕ → ℕ) (table : Table) where
+  pub left_restored : (images last : List (List ℕ)) (later : List (List (List ℕ))) → AreLeftOn disk table images later last → (tuples : List (List Tuple)) → Restores table images tuples → Restores table last tuples
+  left_restored images last [] left tuples r = subst (λ is. Restores table is tuples) (sym left) r
+  left_restored images last (next ∷ later) left tuples r = left_restored next last later left.1 tuples (still_restored disk table images next left.0 tuples r)
 
-pub left_many : (table : Table) (images last : List (List ℕ)) (later : List (List (List ℕ))) → length images ≡ table.copies + 1 → AreLeft table images later last → length last ≡ table.copies + 1
-left_many table images last [] many left = ap length left ∙ many
-left_many table images last (next ∷ later) many left = left_many table next last later left.0.as_many left.1
+  pub left_many : (images last : List (List ℕ)) (later : List (List (List ℕ))) → length images ≡ table.copies + 1 → AreLeftOn disk table images later last → length last ≡ table.copies + 1
+  left_many images last [] many left = ap length left ∙ many
+  left_many images last (next ∷ later) many left = left_many next last later left.0.as_many left.1

@@ -1,9 +1,12 @@
--- What holds of bodies in order, one behind another.
+-- Bodies of bytes, and what holds of them in order, one behind another.
 use Rattle.std.proofs.Common.{◌≡◌, ℕ, ◌<◌, inl, inr, List, [], ◌∷◌, ◌++◌, length, refl, sym, subst, arith, append-nil, append_assoc}
 use Rattle.std.specs.List.{All}
 use Rattle.std.proofs.lemmas.Bool.{cases_lt}
 use Rattle.std.proofs.lemmas.List.{get_or_past}
 use Rattle.std.proofs.lemmas.List.Elements.{All-head, All-tail}
+use Rattle.qc_event.specs.declared.table.Table.{Table}
+use Rattle.qc_codec.specs.Bodies as body
+use Rattle.qc_codec.specs.Ledger.{made_for}
 use Rattle.qc_codec.specs.Order.{EachMay}
 use Rattle.qc_codec.proofs.Exact.{IsBytes}
 
@@ -16,6 +19,11 @@ are_bytes bytes all i = elim (cases_lt i (length bytes)) [
   | inl within ↦ all i 0 within
   | inr past_all ↦ subst (λ (n : ℕ). n < 256) (sym (get_or_past bytes i 0 past_all)) (omega arith)
 ]
+
+-- a made record of a proper table fits, where what it spells is of bytes: so is the disk's number
+pub made_of_bytes : (disk : ℕ) (table : Table) → (body.table 1).fits table → Bytes (body.made.spell (made_for disk table)) → body.made.fits (made_for disk table)
+unfolding body.made body.making
+made_of_bytes disk table proper bytes = ((bytes 2 0 (omega arith), proper), tt)
 
 -- what holds of the first bodies, and goes on to each further one that may stand, holds of all
 module _ (May : List (List ℕ) → List ℕ → Type 0) (Holds : List (List ℕ) → Type 0) (next : (front : List (List ℕ)) (bytes : List ℕ) → Holds front → May front bytes → IsBytes bytes → Holds (front ++ bytes ∷ [])) where

@@ -72,28 +72,28 @@ module _ (setting : Setting) (past : Past) (epoch : ℕ) (legal : Legal setting 
 
   -- AN IMAGE
 
-  module _ (table : Table) (logs : Logs) (records : List (List ℕ)) (m : Mounted table logs epoch records) (image : List ℕ) where
+  module _ (disk : ℕ) (table : Table) (logs : Logs) (records : List (List ℕ)) (m : Mounted disk table logs epoch records) (image : List ℕ) where
     -- What an image tells behind the records of the mounting: the history's tops, and at most one that may commit next.
     pub record Tells : Type 0 where
       pub more : List Logged
       pub next : AreNext past more
       pub at_most_one : length more ≤ 1
-      pub is_image : IsLedgerImage table epoch logs.tops (logged past ++ more) image
+      pub is_image : IsLedgerImage table epoch logs.tops (logged past ++ more) disk image
 
     regrouped : (since : List Logged) → (m.tells.old ++ Epoch epoch ∷ []) ++ map record_of_top since ≡ m.tells.old ++ Epoch epoch ∷ map record_of_top since
     regrouped since = append_assoc m.tells.old (Epoch epoch ∷ []) (map record_of_top since)
 
     bodies_are : (tops more : List Name) → tops ≡ tops_of (entries_of ledger_seat past) ++ more
         → records ++ map (told_body (listed past)) tops
-        ≡ body.made.spell (made_for 0 table) ∷ (map (ledger_base table).spell (option_to_list m.tells.base) ++ map body.ledger.spell (m.tells.old ++ Epoch epoch ∷ map record_of_top (logged past ++ map (logged_as past) more)))
+        ≡ body.made.spell (made_for disk table) ∷ (map (ledger_base table).spell (option_to_list m.tells.base) ++ map body.ledger.spell (m.tells.old ++ Epoch epoch ∷ map record_of_top (logged past ++ map (logged_as past) more)))
     bodies_are tops more same =
         let since : map (logged_as past) tops ≡ logged past ++ map (logged_as past) more =
         ap (map (logged_as past)) same
         ∙ map-append (logged_as past) (tops_of (entries_of ledger_seat past)) more
         ∙ ap (λ (l : List Logged). l ++ map (logged_as past) more) (sym (logged_same setting past legal)) in
         ap₂ (λ (a b : List (List ℕ)). a ++ b) m.tells.are (bodies_same past tops ∙ ap (λ (l : List Logged). map body.ledger.spell (map record_of_top l)) since)
-        ∙ append_mapped body.ledger.spell (body.made.spell (made_for 0 table)) (map (ledger_base table).spell (option_to_list m.tells.base)) (m.tells.old ++ Epoch epoch ∷ []) (map record_of_top (logged past ++ map (logged_as past) more))
-        ∙ ap (λ (rs : List LedgerRecord). body.made.spell (made_for 0 table) ∷ (map (ledger_base table).spell (option_to_list m.tells.base) ++ map body.ledger.spell rs)) (regrouped (logged past ++ map (logged_as past) more))
+        ∙ append_mapped body.ledger.spell (body.made.spell (made_for disk table)) (map (ledger_base table).spell (option_to_list m.tells.base)) (m.tells.old ++ Epoch epoch ∷ []) (map record_of_top (logged past ++ map (logged_as past) more))
+        ∙ ap (λ (rs : List LedgerRecord). body.made.spell (made_for disk table) ∷ (map (ledger_base table).spell (option_to_list m.tells.base) ++ map body.ledger.spell rs)) (regrouped (logged past ++ map (logged_as past) more))
 
     tells : (tops more : List Name) → tops ≡ tops_of (entries_of ledger_seat past) ++ more → All (left.IsNext past) more → length more ≤ 1 → HasRecords (records ++ map (told_body (listed past)) tops) image → Tells
     tells tops more same next one has = record {

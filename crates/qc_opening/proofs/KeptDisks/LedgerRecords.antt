@@ -21,11 +21,10 @@ use Rattle.qc_codec.proofs.Bodies.{exact_ledger, made_fits_ledger}
 use Rattle.qc_codec.proofs.Exact.{IsBytes, all_again, all_takes}
 use Rattle.qc_ledger.specs.Image.{AreLedgers, epoch_body, made_body, to_write}
 use Rattle.qc_ledger.specs.Mounted.{MountsLedger}
-use Rattle.qc_ledger.proofs.Firsts.{made_proper}
 use Rattle.qc_ledger.proofs.Writing.{epoch_fits}
 use Rattle.qc_refine.specs.Images.{IsLedgerBodies}
 use Rattle.qc_refine.proofs.Restoring.ImageReadings.{base_read, exact_ledger_base, read_again}
-use Rattle.qc_opening.proofs.KeptDisks.InOrder.{Bytes, are_bytes, each_holds}
+use Rattle.qc_opening.proofs.KeptDisks.InOrder.{Bytes, are_bytes, each_holds, made_of_bytes}
 use Rattle.qc_refine.proofs.Order.DonesWalk.{all_front}
 use Rattle.qc_opening.proofs.KeptDisks.Lists.{append_mapped, last_number, next_counted, range_more}
 
@@ -43,19 +42,19 @@ AreOld epoch tops = All (λ (l : Logged). IsOld epoch l.top) tops
 older_later : (e f : ℕ) (tops : List Logged) → e ≤ f → AreOld e tops → AreOld f tops
 older_later e f tops le old = All-weaker (λ (l : Logged). IsOld e l.top) (λ (l : Logged). IsOld f l.top) (λ l is. old_later e f l.top le is) tops old
 
-module _ (table : Table) where
+module _ (disk : ℕ) (table : Table) where
   -- the bodies of a base, where there is one
   abbrev bases : Option BaseRecord → List (List ℕ)
   bases base = map (ledger_base table).spell (option_to_list base)
 
   -- the body of the made record, that of a base where there is one, and those of records
   abbrev all_spelled : Option BaseRecord → List LedgerRecord → List (List ℕ)
-  all_spelled base records = body.made.spell (made_for 0 table) ∷ (bases base ++ map body.ledger.spell records)
+  all_spelled base records = body.made.spell (made_for disk table) ∷ (bases base ++ map body.ledger.spell records)
 
-  -- Bodies spell how the ledger was made, maybe a base, and then these records, whose epochs count up to one.
+  -- Bodies spell how the disk was made, maybe a base, and then these records, whose epochs count up to one.
   pub record Spell (base : Option BaseRecord) (epoch : ℕ) (old : List LedgerRecord) (bodies : List (List ℕ)) : Type 0 where
     pub spelled : bodies ≡ all_spelled base old
-    pub made_fits : body.made.fits (made_for 0 table)
+    pub made_fits : body.made.fits (made_for disk table)
     pub base_fits : All (ledger_base table).fits (option_to_list base)
     pub fit : All body.ledger.fits old
     pub made_once : filter_map body.made_of old ≡ []
@@ -72,13 +71,13 @@ module _ (table : Table) where
   abbrev told_by : Option BaseRecord → ℕ → List LedgerRecord → Past
   told_by base epoch old = record { epoch = epoch; base = option_map (λ (b : BaseRecord). b.epoch) base; tops = filter_map logged_in old }
 
-  base_known : (base : Option BaseRecord) (old : List LedgerRecord) → body.made.fits (made_for 0 table) → All (ledger_base table).fits (option_to_list base) → base_in ledger_base (all_spelled base old) ≡ base
-  base_known base old made_fits fits = base_read table ledger_base body.ledger (exact_ledger_base table) (record_no_base table) 0 made_fits base fits old
+  base_known : (base : Option BaseRecord) (old : List LedgerRecord) → body.made.fits (made_for disk table) → All (ledger_base table).fits (option_to_list base) → base_in ledger_base (all_spelled base old) ≡ base
+  base_known base old made_fits fits = base_read table ledger_base body.ledger (exact_ledger_base table) (record_no_base table) disk made_fits base fits old
 
-  records_known : (base : Option BaseRecord) (old : List LedgerRecord) → body.made.fits (made_for 0 table) → All body.ledger.fits old → readings body.ledger (all_spelled base old) ≡ Made (made_for 0 table) ∷ old
+  records_known : (base : Option BaseRecord) (old : List LedgerRecord) → body.made.fits (made_for disk table) → All body.ledger.fits old → readings body.ledger (all_spelled base old) ≡ Made (made_for disk table) ∷ old
   records_known base old made_fits fit =
       ap₂ (λ (o : Option LedgerRecord) (rs : List LedgerRecord). cons_option o rs)
-      (ap (all_of body.ledger) (sym (made_spelled (made_for 0 table))) ∙ all_again body.ledger exact_ledger (Made (made_for 0 table)) (made_fits_ledger (made_for 0 table) made_fits))
+      (ap (all_of body.ledger) (sym (made_spelled (made_for disk table))) ∙ all_again body.ledger exact_ledger (Made (made_for disk table)) (made_fits_ledger (made_for disk table) made_fits))
       (behind_base base ∙ read_again body.ledger exact_ledger old fit)
     where
       behind_base : (b : Option BaseRecord) → readings body.ledger (bases b ++ map body.ledger.spell old) ≡ readings body.ledger (map body.ledger.spell old)
@@ -100,7 +99,7 @@ module _ (table : Table) where
     more : (r : LedgerRecord) → bytes ≡ body.ledger.spell r → front ++ bytes ∷ [] ≡ all_spelled base (old ++ r ∷ [])
     more r is =
         ap₂ (λ (f : List (List ℕ)) (b : List ℕ). f ++ b ∷ []) s.spelled is
-        ∙ append_mapped body.ledger.spell (body.made.spell (made_for 0 table)) (bases base) old (r ∷ [])
+        ∙ append_mapped body.ledger.spell (body.made.spell (made_for disk table)) (bases base) old (r ∷ [])
 
     more_fit : (r : LedgerRecord) → body.ledger.fits r → All body.ledger.fits (old ++ r ∷ [])
     more_fit r fits = All-append body.ledger.fits old (r ∷ []) s.fit (All-cons body.ledger.fits r [] fits (All-nil body.ledger.fits))
@@ -156,7 +155,7 @@ module _ (table : Table) where
   -- A BASE BEHIND THE MADE RECORD
 
   -- with it counting starts anew
-  base_alone : (first bytes : List ℕ) (b : BaseRecord) → first ≡ body.made.spell (made_for 0 table) → body.made.fits (made_for 0 table) → bytes ≡ (ledger_base table).spell b → (ledger_base table).fits b → Spell (Some b) b.epoch [] (first ∷ bytes ∷ [])
+  base_alone : (first bytes : List ℕ) (b : BaseRecord) → first ≡ body.made.spell (made_for disk table) → body.made.fits (made_for disk table) → bytes ≡ (ledger_base table).spell b → (ledger_base table).fits b → Spell (Some b) b.epoch [] (first ∷ bytes ∷ [])
   base_alone first bytes b is made_fits spelled fits = record {
     spelled = ap₂ (λ (f s : List ℕ). f ∷ s ∷ []) is spelled;
     made_fits = made_fits;
@@ -168,17 +167,17 @@ module _ (table : Table) where
     are_old = All-nil (λ (l : Logged). IsOld (b.epoch + 1) l.top);
   }
 
-  behind : (first bytes : List ℕ) (o : Option BaseRecord) → first ≡ body.made.spell (made_for 0 table) → body.made.fits (made_for 0 table) → all_of (ledger_base table) bytes ≡ o → is_some o ≡ true → IsBytes bytes → AreSpelled (first ∷ bytes ∷ [])
+  behind : (first bytes : List ℕ) (o : Option BaseRecord) → first ≡ body.made.spell (made_for disk table) → body.made.fits (made_for disk table) → all_of (ledger_base table) bytes ≡ o → is_some o ≡ true → IsBytes bytes → AreSpelled (first ∷ bytes ∷ [])
   behind first bytes None is made_fits reads some fit = absurd (true≢false (sym some))
   behind first bytes (Some b) is made_fits reads some fit =
       let one = all_takes (ledger_base table) (exact_ledger_base table) bytes b fit reads in
       (Some b, b.epoch, [], base_alone first bytes b is made_fits one.0 one.1)
 
-  longer : (front : List (List ℕ)) (bytes : List ℕ) → AreSpelled front → MayStand front bytes → IsBytes bytes → AreSpelled (front ++ bytes ∷ [])
+  longer : (front : List (List ℕ)) (bytes : List ℕ) → AreSpelled front → MayStand disk front bytes → IsBytes bytes → AreSpelled (front ++ bytes ∷ [])
   longer [] bytes (base, epoch, old, s) may fit = absurd (omega (arith, ap length s.spelled))
   longer (first ∷ []) bytes (base, epoch, old, s) (inl some) fit =
-      let is : first ≡ body.made.spell (made_for 0 table) = ap (λ (bs : List (List ℕ)). get_or bs 0 []) s.spelled in
-      let reads : base_in ledger_base (first ∷ bytes ∷ []) ≡ all_of (ledger_base table) bytes = ap (λ (f : List ℕ). base_in ledger_base (f ∷ bytes ∷ [])) is ∙ base_behind ledger_base (made_for 0 table) bytes [] s.made_fits in
+      let is : first ≡ body.made.spell (made_for disk table) = ap (λ (bs : List (List ℕ)). get_or bs 0 []) s.spelled in
+      let reads : base_in ledger_base (first ∷ bytes ∷ []) ≡ all_of (ledger_base table) bytes = ap (λ (f : List ℕ). base_in ledger_base (f ∷ bytes ∷ [])) is ∙ base_behind ledger_base (made_for disk table) bytes [] s.made_fits in
       behind first bytes (all_of (ledger_base table) bytes) is s.made_fits refl (ap is_some (sym reads) ∙ some) fit
   longer (first ∷ []) bytes (base, epoch, old, s) (inr may) fit = follow (first ∷ []) bytes base epoch old s may fit
   longer (first ∷ second ∷ front) bytes (base, epoch, old, s) may fit = follow (first ∷ second ∷ front) bytes base epoch old s may fit
@@ -187,7 +186,7 @@ module _ (table : Table) where
 
   -- The records of a mounted ledger: how it was made, maybe a base, older ones, and the mounting's epoch.
   pub record Mounted (past : Past) (epoch : ℕ) (records : List (List ℕ)) : Type 0 where
-    pub tells : IsLedgerBodies table epoch past.tops [] 0 records
+    pub tells : IsLedgerBodies table epoch past.tops [] disk records
     pub are_old : AreOld epoch past.tops
 
   -- the next epoch behind records
@@ -215,12 +214,12 @@ module _ (table : Table) where
         are_old = subst (AreOld epoch) tops (subst (λ e. AreOld e (filter_map logged_in old)) (sym same) s.are_old);
       }
 
-  -- what a mounting leaves on the ledger's disk
+  -- what a mounting leaves on a disk of the ledger's
   module _ (past : Past) (epoch : ℕ) (proper : (body.table 1).fits table) (small : epoch < 2 ^ 32) where
-    made_alone : (first : List ℕ) → first ≡ body.ledger.spell (Made (made_for 0 table)) → Spell None 0 [] (first ∷ [])
-    made_alone first is = record {
-      spelled = ap (λ (b : List ℕ). b ∷ []) (is ∙ made_spelled (made_for 0 table));
-      made_fits = made_proper table proper;
+    made_alone : (first : List ℕ) → first ≡ body.ledger.spell (Made (made_for disk table)) → Bytes first → Spell None 0 [] (first ∷ [])
+    made_alone first is fit = let spelled = is ∙ made_spelled (made_for disk table) in record {
+      spelled = ap (λ (b : List ℕ). b ∷ []) spelled;
+      made_fits = made_of_bytes disk table proper (subst Bytes spelled fit);
       base_fits = All-nil (ledger_base table).fits;
       fit = All-nil body.ledger.fits;
       made_once = refl;
@@ -230,18 +229,21 @@ module _ (table : Table) where
     }
 
     -- bodies that were found spell records
-    found_spelled : (first : List ℕ) (rest : List (List ℕ)) → AreLedgers table (first ∷ rest) → All Bytes (first ∷ rest) → AreSpelled (first ∷ rest)
+    found_spelled : (first : List ℕ) (rest : List (List ℕ)) → AreLedgers disk table (first ∷ rest) → All Bytes (first ∷ rest) → AreSpelled (first ∷ rest)
     found_spelled first rest ledgers fit =
-        let one = all_takes body.ledger exact_ledger first (Made (made_for 0 table)) (are_bytes first (All-head Bytes first rest fit)) ledgers.made in
-        each_holds MayStand AreSpelled longer (first ∷ []) rest (None, 0, [], made_alone first one.0) ledgers.order (All-tail Bytes first rest fit)
+        let here = All-head Bytes first rest fit in
+        let one = all_takes body.ledger exact_ledger first (Made (made_for disk table)) (are_bytes first here) ledgers.made in
+        each_holds (MayStand disk) AreSpelled longer (first ∷ []) rest (None, 0, [], made_alone first one.0 here) ledgers.order (All-tail Bytes first rest fit)
 
-    by_found : (found : List (List ℕ)) → AreLedgers table found → past ≡ past_in found → epoch ≡ past.epoch + 1 → All Bytes found → Mounted past epoch (found ++ to_write table found)
+    by_found : (found : List (List ℕ)) → AreLedgers disk table found → past ≡ past_in found → epoch ≡ past.epoch + 1 → All Bytes (found ++ to_write disk table found) → Mounted past epoch (found ++ to_write disk table found)
     by_found [] ledgers is next fit =
-        let made = made_alone (made_body table) refl in
-        let told : past_in (made_body table ∷ []) ≡ told_by None 0 [] = tell None 0 [] (made_body table ∷ []) made in
-        subst (λ (e : ℕ). Mounted past epoch (made_body table ∷ epoch_body (e + 1) ∷ [])) (ap (λ (p : Past). p.epoch) told)
-        (written (made_body table ∷ []) past epoch 0 None [] made (is ∙ sym told) next small)
-    by_found (first ∷ rest) ledgers is next fit = let (base, last, old, s) = found_spelled first rest ledgers fit in written (first ∷ rest) past epoch last base old s is next small
+        let made = made_alone (made_body disk table) refl (All-head Bytes (made_body disk table) (epoch_body ((past_in []).epoch + 1) ∷ []) fit) in
+        let told : past_in (made_body disk table ∷ []) ≡ told_by None 0 [] = tell None 0 [] (made_body disk table ∷ []) made in
+        subst (λ (e : ℕ). Mounted past epoch (made_body disk table ∷ epoch_body (e + 1) ∷ [])) (ap (λ (p : Past). p.epoch) told)
+        (written (made_body disk table ∷ []) past epoch 0 None [] made (is ∙ sym told) next small)
+    by_found (first ∷ rest) ledgers is next fit =
+        let (base, last, old, s) = found_spelled first rest ledgers (all_front Bytes (first ∷ rest) (to_write disk table (first ∷ rest)) fit) in
+        written (first ∷ rest) past epoch last base old s is next small
 
-    pub mounted : (limit : ℕ) (told : Option (List ℕ)) (records : List (List ℕ)) → MountsLedger table limit told records past epoch → All Bytes records → Mounted past epoch records
-    mounted limit told records m fit = subst (Mounted past epoch) (sym m.all) (by_found m.found m.ledgers m.past_is m.next (all_front Bytes m.found (to_write table m.found) (subst (All Bytes) m.all fit)))
+    pub mounted : (limit : ℕ) (told : Option (List ℕ)) (records : List (List ℕ)) → MountsLedger disk table limit told records past epoch → All Bytes records → Mounted past epoch records
+    mounted limit told records m fit = subst (Mounted past epoch) (sym m.all) (by_found m.found m.ledgers m.past_is m.next (subst (All Bytes) m.all fit))

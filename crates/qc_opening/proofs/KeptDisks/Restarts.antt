@@ -24,28 +24,28 @@ use Rattle.qc_codec.specs.declared.past.Past.{Past as Logs}
 use Rattle.qc_desk.specs.Held.{from_row}
 use Rattle.qc_journal.proofs.Readings.{records-same}
 use Rattle.qc_journal.specs.Image.{HasRecords}
-use Rattle.qc_refine.specs.Images.{CarryFinal, IsCopyImage, IsStanding, Restores, first_of, kept_in}
+use Rattle.qc_refine.specs.Images.{CarryFinal, IsCopyImage, Restores, StandOn, first_of, kept_in}
 use Rattle.qc_refine.specs.Folded.{begins}
 use Rattle.qc_refine.specs.Restored.{granted_at, restored}
 use Rattle.qc_refine.specs.Standing.{IsOfEpoch, committed_too}
 use Rattle.qc_refine.proofs.Restoring.ImageReadings.{copy_tells, copy_told}
 use Rattle.qc_refine.proofs.Restoring.RestoredImages.{carry_final, nothing_restored, restore_one, restore_some}
 use Rattle.qc_site.specs.Image.{AreMountableAsCopy, to_write}
-use Rattle.qc_opening.specs.Mountings.{AreKept, AreLeft, CarryNext, HaveNoGrants, IsMounted}
+use Rattle.qc_opening.specs.Mountings.{AreKept, AreLeftOn, CarryNext, HaveNoGrantsOn, MountedOn}
 use Rattle.qc_opening.proofs.KeptDisks.CutOff.{left_many, left_restored, same_base, same_grants}
 use Rattle.qc_opening.proofs.KeptDisks.Stands.{first_at, first_many, rows_restored, stand}
 
 -- what a mounting writes on a copy's disk tells no grant, nor with what it begins
-written_same : (table : Table) (copy : ℕ) (found : List (List ℕ)) → readings (grant_form table) (found ++ to_write copy table found) ≡ readings (grant_form table) found
-written_same table copy found = same_grants copy table found (to_write copy table found) [] (sym (append-nil (to_write copy table found)))
+written_same : (table : Table) (disk : ℕ) (found : List (List ℕ)) → readings (grant_form table) (found ++ to_write disk table found) ≡ readings (grant_form table) found
+written_same table disk found = same_grants disk table found (to_write disk table found) [] (sym (append-nil (to_write disk table found)))
 
-written_begin : (table : Table) (copy : ℕ) (found : List (List ℕ)) → tuples_of_base table (base_in copy_base (found ++ to_write copy table found)) ≡ tuples_of_base table (base_in copy_base found)
-written_begin table copy found = ap (tuples_of_base table) (same_base copy table found (to_write copy table found) [] (sym (append-nil (to_write copy table found))))
+written_begin : (table : Table) (disk : ℕ) (found : List (List ℕ)) → tuples_of_base table (base_in copy_base (found ++ to_write disk table found)) ≡ tuples_of_base table (base_in copy_base found)
+written_begin table disk found = ap (tuples_of_base table) (same_base disk table found (to_write disk table found) [] (sym (append-nil (to_write disk table found))))
 
 -- THE NEXT MOUNTING
 
-module _ (table : Table) (images : List (List ℕ)) (records : ℕ → List (List ℕ)) (epoch : ℕ) (base : List (List Tuple))
-    (m : IsMounted table (λ number. Some (get_or images number [])) records epoch base) (as_many : length images ≡ table.copies + 1) where
+module _ (disk : ℕ → ℕ) (table : Table) (images : List (List ℕ)) (records : ℕ → List (List ℕ)) (epoch : ℕ) (base : List (List Tuple))
+    (m : MountedOn disk table (λ number. Some (get_or images number [])) records epoch base) (as_many : length images ≡ table.copies + 1) where
   -- each image has records
   read : (number : ℕ) → (bodies : List (List ℕ)) × HasRecords bodies (get_or images number [])
   read zero = (m.ledger.found, m.ledger.fine.0)
@@ -63,14 +63,14 @@ module _ (table : Table) (images : List (List ℕ)) (records : ℕ → List (Lis
   grants_read : (copy : ℕ) → copy < table.copies → readings (grant_form table) (records (copy + 1)) ≡ granted_at (kept_in table bodies) copy
   grants_read copy there =
       ap (readings (grant_form table)) (m.copies copy there).all
-      ∙ written_same table copy (m.copies copy there).found
+      ∙ written_same table (disk (copy + 1)) (m.copies copy there).found
       ∙ ap (readings (grant_form table)) (found_read copy there)
       ∙ sym (get_or-map-range_with_len (λ c. readings (grant_form table) ((read (c + 1)).0)) 0 table.copies copy copy [] there (omega arith))
 
   begin_read : (copy : ℕ) → copy < table.copies → tuples_of_base table (base_in copy_base (records (copy + 1))) ≡ begins (first_of table bodies) copy
   begin_read copy there =
       ap (λ bs. tuples_of_base table (base_in copy_base bs)) (m.copies copy there).all
-      ∙ written_begin table copy (m.copies copy there).found
+      ∙ written_begin table (disk (copy + 1)) (m.copies copy there).found
       ∙ ap (λ bs. tuples_of_base table (base_in copy_base bs)) (found_read copy there)
       ∙ sym (first_at table bodies copy there)
 
@@ -89,44 +89,44 @@ module _ (table : Table) (images : List (List ℕ)) (records : ℕ → List (Lis
         ∙ ap₂ (λ (tops : List Logged) (gs : List Grant). restored_row tops (length table.records) (start_tuple (first_of table bodies) copy) gs) tops_read (grants_read copy there));
   }
 
-module _ (table : Table) (told : ℕ → Option (List ℕ)) (records later_records : ℕ → List (List ℕ)) (epoch later_epoch : ℕ) (base later_base : List (List Tuple)) (past : Past) (images last : List (List ℕ)) (later : List (List (List ℕ)))
+module _ (disk : ℕ → ℕ) (table : Table) (told : ℕ → Option (List ℕ)) (records later_records : ℕ → List (List ℕ)) (epoch later_epoch : ℕ) (base later_base : List (List Tuple)) (past : Past) (images last : List (List ℕ)) (later : List (List (List ℕ)))
     (values : List ℕ) where
   -- the next mounting that is not cut off carries the serial machine's values after the history, and after tops whose
   -- commits may come next
-  pub restart : IsMounted table told records epoch base → Legal (setting_of table base) past → length past ≤ limit → IsOfEpoch epoch past → AreKept table base records past images → IsSound (setting_of table base) values
-      → AreLeft table images later last → IsMounted table (λ number. Some (get_or last number [])) later_records later_epoch later_base
+  pub restart : MountedOn disk table told records epoch base → Legal (setting_of table base) past → length past ≤ limit → IsOfEpoch epoch past → AreKept table base records past images → IsSound (setting_of table base) values
+      → AreLeftOn disk table images later last → MountedOn disk table (λ number. Some (get_or last number [])) later_records later_epoch later_base
       → ∥ CarryNext table values past later_base ∥₁
-  restart m legal few of_epoch kept sound left mounted = ∥∥₁_map (stand table told records epoch base m past images legal few of_epoch kept) (λ within. carried within.standing)
+  restart m legal few of_epoch kept sound left mounted = ∥∥₁_map (stand disk table told records epoch base m past images legal few of_epoch kept) (λ within. carried within.standing)
     where
-      carried : IsStanding table base epoch past images → CarryNext table values past later_base
+      carried : StandOn disk table base epoch past images → CarryNext table values past later_base
       carried s =
-          let (tuples, restored) = restore_some table images base epoch past s in
-          let same : tuples ≡ later_base = restore_one table last tuples later_base (left_restored table images last later left tuples restored)
-          (restores table last later_records later_epoch later_base mounted (left_many table images last later kept.as_many left)) in
+          let (tuples, restored) = restore_some disk table images base epoch past s in
+          let same : tuples ≡ later_base = restore_one table last tuples later_base (left_restored disk table images last later left tuples restored)
+          (restores disk table last later_records later_epoch later_base mounted (left_many disk table images last later kept.as_many left)) in
           record {
             more = s.beside.more;
             next = s.beside.next;
-            carry = subst (CarryFinal table values (committed_too past s.beside.more)) same (carry_final table images base epoch past s tuples restored values legal sound);
+            carry = subst (CarryFinal table values (committed_too past s.beside.more)) same (carry_final disk table images base epoch past s tuples restored values legal sound);
           }
 
 -- THE FIRST MOUNTING
 
-module _ (table : Table) (told : ℕ → Option (List ℕ)) (records : ℕ → List (List ℕ)) (epoch : ℕ) (base : List (List Tuple)) (m : IsMounted table told records epoch base) (none : HaveNoGrants table told) where
+module _ (disk : ℕ → ℕ) (table : Table) (told : ℕ → Option (List ℕ)) (records : ℕ → List (List ℕ)) (epoch : ℕ) (base : List (List Tuple)) (m : MountedOn disk table told records epoch base) (none : HaveNoGrantsOn disk table told) where
   -- bodies tell no grant, and that the copy begins with the table's tuples
   abbrev TellNone : List (List ℕ) → Type 0
   TellNone bodies = (readings (grant_form table) bodies ≡ []) × (tuples_of_base table (base_in copy_base bodies) ≡ map first_tuple table.records)
 
-  no_grants : (copy : ℕ) (past : Logs) (limit : ℕ) (found : List (List ℕ)) (o : Option (List ℕ)) → IsSome o → IfSome o (λ image. HasRecords [] image ⊎ IsCopyImage table copy (map first_tuple table.records) [] image)
-      → IfSome o (λ bytes. HasRecords found bytes × AreMountableAsCopy copy table past limit found) → TellNone found
-  no_grants copy past limit found None some fresh fine = absurd cc
-  no_grants copy past limit found (Some image) some (inl empty) fine = subst TellNone (sym (records-same image [] found empty fine.0)) (refl, refl)
-  no_grants copy past limit found (Some image) some (inr fresh) fine = copy_told table (map first_tuple table.records) [] (copy + 1) found (copy_tells table image found fine.0 copy (map first_tuple table.records) [] fresh)
+  no_grants : (number : ℕ) (past : Logs) (limit : ℕ) (found : List (List ℕ)) (o : Option (List ℕ)) → IsSome o → IfSome o (λ image. HasRecords [] image ⊎ IsCopyImage table (map first_tuple table.records) [] number image)
+      → IfSome o (λ bytes. HasRecords found bytes × AreMountableAsCopy number table past limit found) → TellNone found
+  no_grants number past limit found None some fresh fine = absurd cc
+  no_grants number past limit found (Some image) some (inl empty) fine = subst TellNone (sym (records-same image [] found empty fine.0)) (refl, refl)
+  no_grants number past limit found (Some image) some (inr fresh) fine = copy_told table (map first_tuple table.records) [] number found (copy_tells table image found fine.0 number (map first_tuple table.records) [] fresh)
 
   none_told : (copy : ℕ) → copy < table.copies → TellNone (records (copy + 1))
   none_told copy there =
       let c = m.copies copy there in
-      let none_found = no_grants copy m.past (m.limit (copy + 1)) c.found (told (copy + 1)) (none copy there).0 (none copy there).1 c.fine in
-      subst TellNone (sym c.all) (written_same table copy c.found ∙ none_found.0, written_begin table copy c.found ∙ none_found.1)
+      let none_found = no_grants (disk (copy + 1)) m.past (m.limit (copy + 1)) c.found (told (copy + 1)) (none copy there).0 (none copy there).1 c.fine in
+      subst TellNone (sym c.all) (written_same table (disk (copy + 1)) c.found ∙ none_found.0, written_begin table (disk (copy + 1)) c.found ∙ none_found.1)
 
   -- where no grant stands, the copies start with the table's start tuples
   pub first_start : base ≡ base_of table

@@ -18,14 +18,13 @@ use Rattle.qc_codec.specs.Base.{base_in, copy_base, tuples_of_base}
 use Rattle.qc_codec.specs.Copy.{grant_form}
 use Rattle.qc_codec.specs.Ledger.{IsOld, readings}
 use Rattle.qc_codec.specs.Restored.{restored_row}
-use Rattle.qc_codec.proofs.Fits.{table_sized}
 use Rattle.qc_desk.specs.Held.{from_row}
 use Rattle.qc_refine.specs.Folded.{begins}
-use Rattle.qc_refine.specs.Images.{IsCopyImage, IsStandingWithin, first_of}
+use Rattle.qc_refine.specs.Images.{IsCopyImage, StandOnWithin, first_of}
 use Rattle.qc_refine.specs.Listed.{logged}
 use Rattle.qc_refine.specs.Restored.{Kept, granted_at, restored}
 use Rattle.qc_refine.specs.Standing.{IsAskedOf, IsOfEpoch, IsUntold, StandBeside}
-use Rattle.qc_opening.specs.Mountings.{AreKept, IsMounted}
+use Rattle.qc_opening.specs.Mountings.{AreKept, MountedOn}
 use Rattle.qc_opening.proofs.KeptDisks.Choices.{Each, each_at_once}
 use Rattle.qc_opening.proofs.KeptDisks.CopyImages as copy_image
 use Rattle.qc_opening.proofs.KeptDisks.CopyRecords as copy_records
@@ -48,19 +47,17 @@ first_many table bodies = length-map-range_with_len (λ c. tuples_of_base table 
 pub first_at : (table : Table) (bodies : ℕ → List (List ℕ)) (copy : ℕ) → copy < table.copies → begins (first_of table bodies) copy ≡ tuples_of_base table (base_in copy_base (bodies (copy + 1)))
 first_at table bodies copy there = get_or-map-range_with_len (λ c. tuples_of_base table (base_in copy_base (bodies (c + 1)))) 0 table.copies copy copy [] there (omega arith)
 
-module _ (table : Table) (told : ℕ → Option (List ℕ)) (records : ℕ → List (List ℕ)) (epoch : ℕ) (base : List (List Tuple)) (m : IsMounted table told records epoch base) where
+module _ (disk : ℕ → ℕ) (table : Table) (told : ℕ → Option (List ℕ)) (records : ℕ → List (List ℕ)) (epoch : ℕ) (base : List (List Tuple)) (m : MountedOn disk table told records epoch base) where
   -- what a copy had granted before
   abbrev pub old : ℕ → List Grant
   old copy = readings (grant_form table) (records (copy + 1))
 
-  pub copy_spelled : (copy : ℕ) → copy < table.copies → copy_records.Spell copy table m.past (tuples_of_base table (base_in copy_base (records (copy + 1)))) (readings (grant_form table) (records (copy + 1))) (records (copy + 1))
+  pub copy_spelled : (copy : ℕ) → copy < table.copies → copy_records.Spell (disk (copy + 1)) table m.past (tuples_of_base table (base_in copy_base (records (copy + 1)))) (readings (grant_form table) (records (copy + 1))) (records (copy + 1))
   copy_spelled copy there =
-      let small = (table_sized table m.proper).copies in
-      copy_records.mounted copy table m.past (copy_records.made_fits table copy m.proper (omega (arith, there, small)))
-      (m.limit (copy + 1)) (told (copy + 1)) (records (copy + 1)) (m.copies copy there) (m.bytes (copy + 1) (omega (arith, there)))
+      copy_records.mounted (disk (copy + 1)) table m.past (m.limit (copy + 1)) (told (copy + 1)) (records (copy + 1)) m.proper (m.copies copy there) (m.bytes (copy + 1) (omega (arith, there)))
 
-  ledger_mounted : ledger_records.Mounted table m.past epoch (records 0)
-  ledger_mounted = ledger_records.mounted table m.past epoch m.proper m.small (m.limit 0) (told 0) (records 0) m.ledger (m.bytes 0 (omega arith))
+  ledger_mounted : ledger_records.Mounted (disk 0) table m.past epoch (records 0)
+  ledger_mounted = ledger_records.mounted (disk 0) table m.past epoch m.proper m.small (m.limit 0) (told 0) (records 0) m.ledger (m.bytes 0 (omega arith))
 
   abbrev before : Kept
   before = record { tops = m.past.tops; granted = map (λ copy. readings (grant_form table) (records (copy + 1))) (range_with_len 0 table.copies) }
@@ -82,14 +79,14 @@ module _ (table : Table) (told : ℕ → Option (List ℕ)) (records : ℕ → L
 
     -- what an image of a copy's disk tells
     abbrev CopyTells : ℕ → Type 0
-    CopyTells copy = copy_image.Tells (setting_of table base) table (length base) copy (records (copy + 1)) (tuples_of_base table (base_in copy_base (records (copy + 1)))) (readings (grant_form table) (records (copy + 1))) past (get_or images (copy + 1) [])
+    CopyTells copy = copy_image.Tells (setting_of table base) table (length base) copy (disk (copy + 1)) (records (copy + 1)) (tuples_of_base table (base_in copy_base (records (copy + 1)))) (readings (grant_form table) (records (copy + 1))) past (get_or images (copy + 1) [])
 
     abbrev LedgerTells : Type 0
-    LedgerTells = ledger_image.Tells (setting_of table base) past epoch legal few of_epoch m.small table m.past (records 0) ledger_mounted (get_or images 0 [])
+    LedgerTells = ledger_image.Tells (setting_of table base) past epoch legal few of_epoch m.small (disk 0) table m.past (records 0) ledger_mounted (get_or images 0 [])
 
     -- those of each copy, with none where there is no copy
     module _ (l : LedgerTells) (c : Each table.copies CopyTells) where
-      told_at : (copy : ℕ) → (untold : List Grant) × (copy < table.copies → All (IsUntold past) untold × (length untold ≤ 1) × All (IsAskedOf past copy) untold × IsCopyImage table copy (begins first copy) (readings (grant_form table) (records (copy + 1)) ++ (grants past copy ++ untold)) (get_or images (copy + 1) []))
+      told_at : (copy : ℕ) → (untold : List Grant) × (copy < table.copies → All (IsUntold past) untold × (length untold ≤ 1) × All (IsAskedOf past copy) untold × IsCopyImage table (begins first copy) (readings (grant_form table) (records (copy + 1)) ++ (grants past copy ++ untold)) (disk (copy + 1)) (get_or images (copy + 1) []))
       told_at copy = elim (cases_lt copy table.copies) [
         | inl there ↦ (
           (c copy there).untold,
@@ -97,7 +94,7 @@ module _ (table : Table) (told : ℕ → Option (List ℕ)) (records : ℕ → L
             (c copy there).are,
             (c copy there).few,
             (c copy there).asked,
-            subst (λ row. IsCopyImage table copy row (readings (grant_form table) (records (copy + 1)) ++ (grants past copy ++ (c copy there).untold)) (get_or images (copy + 1) [])) (sym (first_at table records copy there)) (c copy there).is_image,
+            subst (λ row. IsCopyImage table row (readings (grant_form table) (records (copy + 1)) ++ (grants past copy ++ (c copy there).untold)) (disk (copy + 1)) (get_or images (copy + 1) [])) (sym (first_at table records copy there)) (c copy there).is_image,
           ),
         )
         | inr past_all ↦ ([], λ here. absurd (omega (arith, here, past_all)))
@@ -112,29 +109,26 @@ module _ (table : Table) (told : ℕ → Option (List ℕ)) (records : ℕ → L
       now_at : (copy : ℕ) → copy < table.copies → granted_at now copy ≡ all_granted copy
       now_at copy there = get_or-map-range_with_len all_granted 0 table.copies copy copy [] there (omega arith)
 
-      within : (copy : ℕ) → copy < length first → copy < table.copies
-      within copy there = subst (λ (n : ℕ). copy < n) (first_many table records) there
-
       old_grants : (copy : ℕ) → copy < table.copies → All (λ (g : Grant). IsOld epoch g.access) (granted_at before copy)
       old_grants copy there =
           subst (All (λ (g : Grant). IsOld epoch g.access)) (sym (before_at copy there))
           (subst (λ (e : ℕ). All (λ (g : Grant). IsOld e g.access) (readings (grant_form table) (records (copy + 1)))) (sym m.ledger.next) (copy_spelled copy there).are_old)
 
       beside : StandBeside first epoch (setting_of table base) before now past
-      beside = record {
+      beside = let many = first_many table records in record {
         starts = starts_before ∙ ap (λ n. restored first n before) (sym (length-map table.records (λ (r : Row). r.config)));
         old_tops = ledger_mounted.are_old;
-        old_grants = λ copy there. old_grants copy (within copy there);
+        old_grants = λ copy there. old_grants copy (omega (arith, there, many));
         of_epoch = of_epoch;
         more = l.more;
         next = l.next;
         tops = refl;
         untold = λ copy. (told_at copy).0;
-        are_untold = λ copy there. ((told_at copy).1 (within copy there)).0;
-        granted = λ copy there. now_at copy (within copy there) ∙ ap (λ (gs : List Grant). gs ++ (grants past copy ++ (told_at copy).0)) (sym (before_at copy (within copy there)));
+        are_untold = λ copy there. ((told_at copy).1 (omega (arith, there, many))).0;
+        granted = λ copy there. let here : copy < table.copies = omega (arith, there, many) in now_at copy here ∙ ap (λ (gs : List Grant). gs ++ (grants past copy ++ (told_at copy).0)) (sym (before_at copy here));
       }
 
-      stand_so : IsStandingWithin 1 table base epoch past images
+      stand_so : StandOnWithin disk 1 table base epoch past images
       unfolding beside
       stand_so = record {
         standing = record {
@@ -145,7 +139,7 @@ module _ (table : Table) (told : ℕ → Option (List ℕ)) (records : ℕ → L
           many = first_many table records;
           as_many = as_many;
           ledger = l.is_image;
-          copies = λ copy there. subst (λ gs. IsCopyImage table copy (begins first copy) gs (get_or images (copy + 1) [])) (sym (now_at copy there)) ((told_at copy).1 there).3;
+          copies = λ copy there. subst (λ gs. IsCopyImage table (begins first copy) gs (disk (copy + 1)) (get_or images (copy + 1) [])) (sym (now_at copy there)) ((told_at copy).1 there).3;
         };
         few_tops = l.at_most_one;
         few_grants = λ copy there. ((told_at copy).1 there).1;
@@ -153,15 +147,15 @@ module _ (table : Table) (told : ℕ → Option (List ℕ)) (records : ℕ → L
       }
 
   -- the images of disks that keep a legal history stand beside it
-  pub stand : (past : Past) (images : List (List ℕ)) → Legal (setting_of table base) past → length past ≤ limit → IsOfEpoch epoch past → AreKept table base records past images → ∥ IsStandingWithin 1 table base epoch past images ∥₁
+  pub stand : (past : Past) (images : List (List ℕ)) → Legal (setting_of table base) past → length past ≤ limit → IsOfEpoch epoch past → AreKept table base records past images → ∥ StandOnWithin disk 1 table base epoch past images ∥₁
   stand past images legal few of_epoch kept =
       ∥∥₁_elim ledger_tells ∥∥₁_prop (λ l. ∥∥₁_map (each_at_once table.copies (CopyTells past images legal few of_epoch kept.as_many) copies_tell) (λ c. stand_so past images legal few of_epoch kept.as_many l c))
     where
       ledger_tells : ∥ LedgerTells past images legal few of_epoch kept.as_many ∥₁
       ledger_tells = ∥∥₁_map kept.ledger (λ keeps.
-          ledger_image.told (setting_of table base) past epoch legal few of_epoch m.small table m.past (records 0) ledger_mounted (get_or images 0 []) (λ i. i ≡ get_or images 0 []) refl keeps)
+          ledger_image.told (setting_of table base) past epoch legal few of_epoch m.small (disk 0) table m.past (records 0) ledger_mounted (get_or images 0 []) (λ i. i ≡ get_or images 0 []) refl keeps)
 
       copies_tell : Each table.copies (λ copy. ∥ CopyTells past images legal few of_epoch kept.as_many copy ∥₁)
       copies_tell copy there = ∥∥₁_map (kept.copies copy there) (λ keeps.
-          copy_image.told (setting_of table base) table (length base) copy (records (copy + 1)) (tuples_of_base table (base_in copy_base (records (copy + 1)))) (readings (grant_form table) (records (copy + 1))) past (get_or images (copy + 1) [])
+          copy_image.told (setting_of table base) table (length base) copy (disk (copy + 1)) (records (copy + 1)) (tuples_of_base table (base_in copy_base (records (copy + 1)))) (readings (grant_form table) (records (copy + 1))) past (get_or images (copy + 1) [])
           m.as_many (copy_spelled copy there).tells (λ i. i ≡ get_or images (copy + 1) []) refl keeps)

@@ -35,18 +35,18 @@ use Rattle.qc_opening.proofs.KeptDisks.InOrder.{Bytes}
 abbrev row : Row
 row = record { name = 97 ∷ []; start = 0; config = record { votes = 1 ∷ []; read = 1; write = 1 } }
 
-abbrev table : Table
+abbrev pub table : Table
 table = record { copies = 1; records = row ∷ [] }
 
 -- how the disk of a number was made
 abbrev made_bytes : ℕ → List ℕ
 made_bytes number = 1 ∷ 1 ∷ number ∷ 1 ∷ 1 ∷ 1 ∷ 97 ∷ 0 ∷ 0 ∷ 0 ∷ 0 ∷ 0 ∷ 0 ∷ 0 ∷ 0 ∷ 1 ∷ 1 ∷ 0 ∷ 1 ∷ 0 ∷ 1 ∷ []
 
-ledger_made : tops.made_body table ≡ made_bytes 0
+ledger_made : tops.made_body 0 table ≡ made_bytes 0
 unfolding body.ledger body.making body.table body.row body.label config half long
 ledger_made = refl
 
-copy_made : grants.made_body 0 table ≡ made_bytes 1
+copy_made : grants.made_body 1 table ≡ made_bytes 1
 unfolding body.made body.making body.table body.row body.label config half long
 copy_made = refl
 
@@ -65,17 +65,17 @@ bytes_by_test [] is = All-nil (λ (n : ℕ). n < 256)
 bytes_by_test (x ∷ xs) is = let parts = and_parts (nat_lt x 256) (list_all (λ n. nat_lt n 256) xs) is in All-cons (λ (n : ℕ). n < 256) x xs (ltb-true x 256 parts.0) (bytes_by_test xs parts.1)
 
 -- the records of each disk, where the first mounting has written them
-abbrev records : ℕ → List (List ℕ)
-records zero = tops.made_body table ∷ tops.epoch_body 1 ∷ []
-records (suc copy) = grants.made_body copy table ∷ []
+abbrev pub records : ℕ → List (List ℕ)
+records zero = tops.made_body 0 table ∷ tops.epoch_body 1 ∷ []
+records (suc copy) = grants.made_body (suc copy) table ∷ []
 
 ledger_bytes : AreBytes (records 0)
 ledger_bytes =
-    All-cons Bytes (tops.made_body table) (tops.epoch_body 1 ∷ []) (subst Bytes (sym ledger_made) (bytes_by_test (made_bytes 0) refl))
+    All-cons Bytes (tops.made_body 0 table) (tops.epoch_body 1 ∷ []) (subst Bytes (sym ledger_made) (bytes_by_test (made_bytes 0) refl))
     (All-cons Bytes (tops.epoch_body 1) [] (subst Bytes (sym first_epoch) (bytes_by_test (2 ∷ 0 ∷ 0 ∷ 0 ∷ 1 ∷ []) refl)) (All-nil Bytes))
 
 copy_bytes : AreBytes (records 1)
-copy_bytes = All-cons Bytes (grants.made_body 0 table) [] (subst Bytes (sym copy_made) (bytes_by_test (made_bytes 1) refl)) (All-nil Bytes)
+copy_bytes = All-cons Bytes (grants.made_body 1 table) [] (subst Bytes (sym copy_made) (bytes_by_test (made_bytes 1) refl)) (All-nil Bytes)
 
 -- ROOM
 
@@ -86,13 +86,13 @@ enough place bytes low few (inr long) = omega (arith, few, long)
 one_row : (bytes : List ℕ) → length (records_row (bytes ∷ [])) ≡ 5 + length bytes
 one_row bytes = omega (arith, length-append (length_bytes bytes ++ bytes) [], length-append (length_bytes bytes) bytes, length-length_bytes bytes)
 
-ledger_room : (place : ℕ) → tops.IsFull 1000 [] (tops.to_write table []) place → ⊥
-ledger_room place (inl here) = enough place (tops.made_body table) (omega (arith, here.0)) (omega (arith, ap length ledger_made)) here.1
-ledger_room place (inr (first, inl here)) = enough place (tops.epoch_body 1) (omega (arith, here.0, one_row (tops.made_body table), ap length ledger_made)) (omega (arith, ap length first_epoch)) here.1
+ledger_room : (place : ℕ) → tops.IsFull 1000 [] (tops.to_write 0 table []) place → ⊥
+ledger_room place (inl here) = enough place (tops.made_body 0 table) (omega (arith, here.0)) (omega (arith, ap length ledger_made)) here.1
+ledger_room place (inr (first, inl here)) = enough place (tops.epoch_body 1) (omega (arith, here.0, one_row (tops.made_body 0 table), ap length ledger_made)) (omega (arith, ap length first_epoch)) here.1
 ledger_room place (inr (first, inr later)) = later.1
 
-copy_room : (place : ℕ) → tops.IsFull 1000 [] (grants.to_write 0 table []) place → ⊥
-copy_room place (inl here) = enough place (grants.made_body 0 table) (omega (arith, here.0)) (omega (arith, ap length copy_made)) here.1
+copy_room : (place : ℕ) → tops.IsFull 1000 [] (grants.to_write 1 table []) place → ⊥
+copy_room place (inl here) = enough place (grants.made_body 1 table) (omega (arith, here.0)) (omega (arith, ap length copy_made)) here.1
 copy_room place (inr later) = later.1
 
 -- THE MOUNTING
@@ -101,7 +101,7 @@ copy_room place (inr later) = later.1
 abbrev empty : ℕ → Option (List ℕ)
 empty number = Some []
 
-mounted : IsMounted table empty records 1 (base_of table)
+pub mounted : IsMounted table empty records 1 (base_of table)
 mounted = record {
   past = record { epoch = 0; base = None; tops = [] };
   limit = λ number. 1000;
@@ -110,8 +110,8 @@ mounted = record {
   bytes = λ number few. each_bytes number few;
   ledger = record {
     found = [];
-    ledgers = record { made = tt; order = each_none MayStand };
-    fine = (inl (refl, omega arith), record { ledgers = record { made = tt; order = each_none MayStand }; epoch = omega arith; room = ledger_room });
+    ledgers = record { made = tt; order = each_none (MayStand 0) };
+    fine = (inl (refl, omega arith), record { ledgers = record { made = tt; order = each_none (MayStand 0) }; epoch = omega arith; room = ledger_room });
     past_is = refl;
     next = refl;
     all = refl;
@@ -126,11 +126,11 @@ mounted = record {
     each_bytes (suc zero) few = copy_bytes
     each_bytes (suc (suc number)) few = absurd (omega (arith, few))
 
-    each_copy : (copy : ℕ) → copy < 1 → copies.MountsCopy copy table (record { epoch = 0; base = None; tops = [] }) 1000 (Some []) (records (copy + 1))
+    each_copy : (copy : ℕ) → copy < 1 → copies.MountsCopy (copy + 1) table (record { epoch = 0; base = None; tops = [] }) 1000 (Some []) (records (copy + 1))
     each_copy zero there = record {
       found = [];
-      granted = record { made = tt; order = each_none (Copy.MayStand 0 table (record { epoch = 0; base = None; tops = [] })) };
-      fine = (inl (refl, omega arith), record { granted = record { made = tt; order = each_none (Copy.MayStand 0 table (record { epoch = 0; base = None; tops = [] })) }; room = copy_room });
+      granted = record { made = tt; order = each_none (Copy.MayStand 1 table (record { epoch = 0; base = None; tops = [] })) };
+      fine = (inl (refl, omega arith), record { granted = record { made = tt; order = each_none (Copy.MayStand 1 table (record { epoch = 0; base = None; tops = [] })) }; room = copy_room });
       all = refl;
     }
     each_copy (suc copy) there = absurd (omega (arith, there))
@@ -144,11 +144,11 @@ mounted = record {
 has : (bodies : List (List ℕ)) → All IsShort bodies → HasRecords bodies (records_row bodies ++ 0 ∷ [])
 has bodies short = inr (length (records_row bodies), record { gate = 0; rest = []; split = refl; closed = λ is. cc; size = refl; short = short })
 
-abbrev images : List (List ℕ)
+abbrev pub images : List (List ℕ)
 images = (records_row (records 0) ++ 0 ∷ []) ∷ (records_row (records 1) ++ 0 ∷ []) ∷ []
 
 -- before anything has run, each disk keeps what nothing tells
-kept : AreKept table (base_of table) records [] images
+pub kept : AreKept table (base_of table) records [] images
 kept = record {
   as_many = refl;
   ledger = ∣ record { untold = None; next = tt; each = λ image is. ([], inl refl, subst (HasRecords (records 0)) (sym is) (has (records 0) ledger_short)) } ∣₁;
@@ -157,11 +157,11 @@ kept = record {
   where
     ledger_short : All IsShort (records 0)
     ledger_short =
-        All-cons IsShort (tops.made_body table) (tops.epoch_body 1 ∷ []) (omega (arith, ap length ledger_made))
+        All-cons IsShort (tops.made_body 0 table) (tops.epoch_body 1 ∷ []) (omega (arith, ap length ledger_made))
         (All-cons IsShort (tops.epoch_body 1) [] (omega (arith, ap length first_epoch)) (All-nil IsShort))
 
     copy_short : All IsShort (records 1)
-    copy_short = All-cons IsShort (grants.made_body 0 table) [] (omega (arith, ap length copy_made)) (All-nil IsShort)
+    copy_short = All-cons IsShort (grants.made_body 1 table) [] (omega (arith, ap length copy_made)) (All-nil IsShort)
 
     each_copy : (copy : ℕ) → copy < 1 → ∥ KeepsGrants (setting_of table (base_of table)) 1 copy (records (copy + 1)) (λ image. image ≡ get_or images (copy + 1) []) [] ∥₁
     each_copy zero there = ∣ record { untold = None; may = tt; fit = All-nil _; each = λ image is. ([], inl refl, subst (HasRecords (records 1)) (sym is) (has (records 1) copy_short)) } ∣₁
@@ -169,4 +169,4 @@ kept = record {
 
 -- so they stand beside the empty history
 stands : ∥ IsStandingWithin 1 table (base_of table) 1 [] images ∥₁
-stands = stand table empty records 1 (base_of table) mounted [] images tt (omega arith) (λ number began. absurd (true≢false (sym began))) kept
+stands = stand (λ place. place) table empty records 1 (base_of table) mounted [] images tt (omega arith) (λ number began. absurd (true≢false (sym began))) kept

@@ -59,7 +59,7 @@ among_more most P Q (Disk which) also among = (omega arith, among.1)
 among_more most P Q (Image bad) also among = (omega arith, among.1, also bad among.2)
 among_more most P Q Memory also among = tt
 
-pub ledger_reason_at : (P : ImageFault → Type 0) (refusal : LedgerNo) → ledger_refusing.IsOfLedgerImage P refusal → IsReasonAt 0 P (ledger_reason refusal)
+pub ledger_reason_at : (P : ImageFault → Type 0) (refusal : LedgerNo) → ledger_refusing.IsOfLedgerImage 0 P refusal → IsReasonAt 0 P (ledger_reason refusal)
 ledger_reason_at P ledger.Disk is = refl
 ledger_reason_at P (ledger.Image bad) is = is
 ledger_reason_at P (ledger.Full place) is = tt
@@ -71,7 +71,7 @@ ledger_failed (ledger.Image bad) failed = absurd failed
 ledger_failed (ledger.Full place) failed = absurd failed
 ledger_failed (ledger.Short short) failed = absurd failed
 
-pub copy_reason_at : (copy : ℕ) (P : ImageFault → Type 0) (refusal : SiteNo) → site_refusing.IsOfCopyImage copy P refusal → IsReasonAt (copy + 1) P (copy_reason copy refusal)
+pub copy_reason_at : (copy : ℕ) (P : ImageFault → Type 0) (refusal : SiteNo) → site_refusing.IsOfCopyImage (copy + 1) P refusal → IsReasonAt (copy + 1) P (copy_reason copy refusal)
 copy_reason_at copy P site.Disk is = refl
 copy_reason_at copy P (site.Image bad) is = is
 copy_reason_at copy P site.Strange is = tt
@@ -123,14 +123,14 @@ module _ {D : Type 0} (view : D → DiskView) where
 
   -- a ledger's disk that was refused
   pub ledger_refused : (written : List (List ℕ) → List (List ℕ)) (old new : D) (refusal : LedgerNo) (reason : Reason) (P : ImageFault → Type 0) → reason ≡ ledger_reason refusal → IsMounted view written (refusal ≡ ledger.Disk) old new
-      → ledger_refusing.IsOfLedgerImage P refusal → IsMounted view written (FailedAt reason 0) old new × IsReasonAt 0 P reason
+      → ledger_refusing.IsOfLedgerImage 0 P refusal → IsMounted view written (FailedAt reason 0) old new × IsReasonAt 0 P reason
   ledger_refused written old new refusal reason P is mounted image =
       let Refused : Reason → Type 0 = λ r. IsMounted view written (FailedAt r 0) old new × IsReasonAt 0 P r in
       subst Refused (sym is) (mounted_for written (refusal ≡ ledger.Disk) (FailedAt (ledger_reason refusal) 0) old new (ledger_failed refusal) (λ failed. subst (λ r. FailedAt (ledger_reason r) 0) (sym failed) refl) mounted, ledger_reason_at P refusal image)
 
   -- a copy's disk that was refused
   pub copy_refused : (copy : ℕ) (written : List (List ℕ) → List (List ℕ)) (old new : D) (refusal : SiteNo) (reason : Reason) (P : ImageFault → Type 0) → reason ≡ copy_reason copy refusal → IsMounted view written (refusal ≡ site.Disk) old new
-      → site_refusing.IsOfCopyImage copy P refusal → IsMounted view written (FailedAt reason (copy + 1)) old new × IsReasonAt (copy + 1) P reason
+      → site_refusing.IsOfCopyImage (copy + 1) P refusal → IsMounted view written (FailedAt reason (copy + 1)) old new × IsReasonAt (copy + 1) P reason
   copy_refused copy written old new refusal reason P is mounted image =
       let Refused : Reason → Type 0 = λ r. IsMounted view written (FailedAt r (copy + 1)) old new × IsReasonAt (copy + 1) P r in
       subst Refused (sym is) (mounted_for written (refusal ≡ site.Disk) (FailedAt (copy_reason copy refusal) (copy + 1)) old new (copy_failed copy refusal) (λ failed. subst (λ r. FailedAt (copy_reason copy r) (copy + 1)) (sym failed) refl) mounted, copy_reason_at copy P refusal image)

@@ -24,8 +24,10 @@ use Rattle.qc_opening.proofs.Mountings.Disks.{among_at, mounted_for, not_behind,
 use Rattle.qc_opening.proofs.Mountings.Numbered.{pairs_append, pairs_length, pairs_mapped, pairs_more, pairs_shifted}
 
 -- disk `copy + 1` is a copy's
-pub written_next : {D : Type 0} (view : D → DiskView) (table : Table) (copy : ℕ) (Failed : Type 0) (old new : D) → IsMounted view (site.to_write copy table) Failed old new → IsMounted view (to_write table (copy + 1)) Failed old new
-written_next view table copy Failed old new is = subst (λ n. IsMounted view (to_write table n) Failed old new) (sym (add-one copy)) is
+pub written_next : {D : Type 0} (view : D → DiskView) (table : Table) (copy : ℕ) (Failed : Type 0) (old new : D) → IsMounted view (site.to_write (copy + 1) table) Failed old new → IsMounted view (to_write table (copy + 1)) Failed old new
+written_next view table copy Failed old new is =
+    let next = add-one copy in
+    subst (λ n. IsMounted view (to_write table n) Failed old new) (sym next) (subst (λ n. IsMounted view (site.to_write n table) Failed old new) next is)
 
 module _ {D : Type 0} {g : Ghosts D} (table : Table) (past : Past) (limit : ℕ) where
   -- IMAGES
@@ -33,7 +35,7 @@ module _ {D : Type 0} {g : Ghosts D} (table : Table) (past : Past) (limit : ℕ)
   -- a copy was mounted from an image without a fault
   sound_copy : (number : ℕ) (disk : D) (mounted : Mounted D g) (image : List ℕ) → IsCopy table past limit number disk mounted → (g.view disk).content ≡ Some image → IsSoundCopy table limit past number image
   sound_copy number disk mounted image is told =
-      let fine = subst (λ o. IfSome o (λ bytes. HasRecords is.mounts.found bytes × site.AreMountableAsCopy number table past limit is.mounts.found)) told is.mounts.fine in
+      let fine = subst (λ o. IfSome o (λ bytes. HasRecords is.mounts.found bytes × site.AreMountableAsCopy (number + 1) table past limit is.mounts.found)) told is.mounts.fine in
       record { found = is.mounts.found; has = fine.0; fine = fine.1 }
 
   pub sound_copies : (number : ℕ) (disks : List D) (mounted : List (Mounted D g)) (images : List (List ℕ)) → PairsFrom (IsCopy table past limit) number disks mounted → TellImages g.view disks images
@@ -51,12 +53,12 @@ module _ {D : Type 0} {g : Ghosts D} (table : Table) (past : Past) (limit : ℕ)
   -- behind copies without a fault
   pub fault_behind : (number copy : ℕ) (taken : List D) (mounted : List (Mounted D g)) (disk : D) (rest : List D) (images : List (List ℕ)) (bad : BadImage)
       → PairsFrom (IsCopy table past limit) number taken mounted → number + length taken ≡ copy → TellImages g.view (taken ++ disk ∷ rest) images
-      → bad.disk ≡ copy + 1 → IfSome (g.view disk).content (IsFirstFault (site.IsCopyFault copy table past limit) bad.fault) → IsCopiesFault table limit past bad number images
+      → bad.disk ≡ copy + 1 → IfSome (g.view disk).content (IsFirstFault (site.IsCopyFault (copy + 1) table past limit) bad.fault) → IsCopiesFault table limit past bad number images
   fault_behind number copy [] [] disk rest [] bad copies is tell at fault = absurd cc
   fault_behind number copy [] [] disk rest (image ∷ images) bad copies is tell at fault =
       let same : copy ≡ number = omega (arith, is) in
-      let Here : ℕ → Type 0 = λ n. (bad.disk ≡ n + 1) × IsFirstFault (site.IsCopyFault n table past limit) bad.fault image in
-      inl (subst Here same (at, subst (λ o. IfSome o (IsFirstFault (site.IsCopyFault copy table past limit) bad.fault)) (head_of _ _ _ _ tell) fault))
+      let Here : ℕ → Type 0 = λ n. (bad.disk ≡ n + 1) × IsFirstFault (site.IsCopyFault (n + 1) table past limit) bad.fault image in
+      inl (subst Here same (at, subst (λ o. IfSome o (IsFirstFault (site.IsCopyFault (copy + 1) table past limit) bad.fault)) (head_of _ _ _ _ tell) fault))
   fault_behind number copy [] (m ∷ mounted) disk rest images bad copies is tell at fault = absurd copies
   fault_behind number copy (t ∷ taken) [] disk rest images bad copies is tell at fault = absurd copies
   fault_behind number copy (t ∷ taken) (m ∷ mounted) disk rest [] bad copies is tell at fault = absurd cc
@@ -90,10 +92,10 @@ module _ {D : Type 0} {g : Ghosts D} (table : Table) (past : Past) (limit : ℕ)
     -- REFUSED
 
     module _ (copy : ℕ) (count : length mounted ≡ copy) (reason : Reason) (after : List D) (P : D → ImageFault → Type 0)
-        (back : GoesBack (λ old new. IsMounted g.view (site.to_write copy table) (FailedAt reason (copy + 1)) old new × IsReasonAt (copy + 1) (P old) reason) waiting after) where
+        (back : GoesBack (λ old new. IsMounted g.view (site.to_write (copy + 1) table) (FailedAt reason (copy + 1)) old new × IsReasonAt (copy + 1) (P old) reason) waiting after) where
       left_copy : (number : ℕ) (disk : D) (m : Mounted D g) → number < copy → IsCopy table past limit number disk m → IsLeft g.view table (FailedAt reason) (IsBehind reason) (number + 1) disk (copy_disk m)
       left_copy number disk m low is = record {
-        mounted = written_next g.view table number (FailedAt reason (number + 1)) disk (copy_disk m) (mounted_for g.view (site.to_write number table) ⊥ (FailedAt reason (number + 1)) disk (copy_disk m) (not_failed (copy + 1) (P back.before) reason (number + 1) back.became.1 (λ same. omega (arith, low, same))) (λ never. absurd never) is.disk_is);
+        mounted = written_next g.view table number (FailedAt reason (number + 1)) disk (copy_disk m) (mounted_for g.view (site.to_write (number + 1) table) ⊥ (FailedAt reason (number + 1)) disk (copy_disk m) (not_failed (copy + 1) (P back.before) reason (number + 1) back.became.1 (λ same. omega (arith, low, same))) (λ never. absurd never) is.disk_is);
         behind = λ b. absurd (not_behind (copy + 1) (P back.before) reason (number + 1) back.became.1 (omega (arith, low)) b);
       }
 
@@ -117,10 +119,10 @@ module _ {D : Type 0} {g : Ghosts D} (table : Table) (past : Past) (limit : ℕ)
 
   -- the reason is the first fault of the images that are told, where it is one of an image
   pub reason_among : (most : ℕ) (all waiting : List D) (mounted : List (Mounted D g)) (so_far : AreTaken table past limit all waiting mounted) (copy : ℕ) → length mounted ≡ copy → copy < most → (reason : Reason) (after : List D) (Failed : D → D → Type 0)
-      → GoesBack (λ old new. Failed old new × IsReasonAt (copy + 1) (λ fault. IfSome (g.view old).content (IsFirstFault (site.IsCopyFault copy table past limit) fault)) reason) waiting after
+      → GoesBack (λ old new. Failed old new × IsReasonAt (copy + 1) (λ fault. IfSome (g.view old).content (IsFirstFault (site.IsCopyFault (copy + 1) table past limit) fault)) reason) waiting after
       → IsReasonAmong 1 most (λ bad. (images : List (List ℕ)) → TellImages g.view all images → IsCopiesFault table limit past bad 0 images) reason
   reason_among most all waiting mounted so_far copy count low reason after Failed back =
-      among_at 1 most (copy + 1) (λ fault. IfSome (g.view back.before).content (IsFirstFault (site.IsCopyFault copy table past limit) fault)) (λ bad. (images : List (List ℕ)) → TellImages g.view all images → IsCopiesFault table limit past bad 0 images)
+      among_at 1 most (copy + 1) (λ fault. IfSome (g.view back.before).content (IsFirstFault (site.IsCopyFault (copy + 1) table past limit) fault)) (λ bad. (images : List (List ℕ)) → TellImages g.view all images → IsCopiesFault table limit past bad 0 images)
       reason (omega arith) (omega (arith, low)) back.became.1
       (λ bad at fault images told. fault_behind 0 copy so_far.taken mounted back.before back.rest images bad so_far.copies_are (omega (arith, taken_length all waiting mounted so_far, count))
       (subst (λ (l : List D). TellImages g.view l images) (so_far.all_are ∙ ap (λ (l : List D). so_far.taken ++ l) back.old_is) told) at fault)

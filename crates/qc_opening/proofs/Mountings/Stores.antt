@@ -55,13 +55,13 @@ module _ {D : Type 0} {g : Ghosts D} (table : Table) (limit : ℕ) where
   sound_ledger : (disk : D) (mounted : Book D g) (past : Past) (epoch : ℕ) (image : List ℕ) (Behind : Past → Type 0) → IsLedger table limit disk mounted past epoch → (g.view disk).content ≡ Some image
       → Behind past → IsSoundLedger table limit image Behind
   sound_ledger disk mounted past epoch image Behind is told behind =
-      let fine = subst (λ o. IfSome o (λ bytes. HasRecords is.mounts.found bytes × ledger.AreMountableAsLedger table limit is.mounts.found)) told is.mounts.fine in
+      let fine = subst (λ o. IfSome o (λ bytes. HasRecords is.mounts.found bytes × ledger.AreMountableAsLedger 0 table limit is.mounts.found)) told is.mounts.fine in
       record { found = is.mounts.found; has = fine.0; fine = fine.1; behind = subst Behind is.mounts.past_is behind }
 
   module _ (reason : Reason) (old new : List D)
-      (back : GoesBack (λ before after. IsMounted g.view (ledger.to_write table) (FailedAt reason 0) before after × IsReasonAt 0 (λ fault. IfSome (g.view before).content (ledger.IsFirstFault (ledger.IsLedgerFault table limit) fault)) reason) old new) where
+      (back : GoesBack (λ before after. IsMounted g.view (ledger.to_write 0 table) (FailedAt reason 0) before after × IsReasonAt 0 (λ fault. IfSome (g.view before).content (ledger.IsFirstFault (ledger.IsLedgerFault 0 table limit) fault)) reason) old new) where
     abbrev P : ImageFault → Type 0
-    P fault = IfSome (g.view back.before).content (ledger.IsFirstFault (ledger.IsLedgerFault table limit) fault)
+    P fault = IfSome (g.view back.before).content (ledger.IsFirstFault (ledger.IsLedgerFault 0 table limit) fault)
 
     pub left_at_ledger : ((disk : D) (c : List ℕ) → (g.view disk).left_at (g.view disk).moment c ↔ (g.view disk).may_leave c) → AreLeft g.view table reason 0 old new
     left_at_ledger here =
@@ -74,9 +74,9 @@ module _ {D : Type 0} {g : Ghosts D} (table : Table) (limit : ℕ) where
     reason_of_ledger most = among_at 0 most 0 P (λ bad. (images : List (List ℕ)) → TellImages g.view old images → IsFirstFault table limit bad images) reason (omega arith) (omega arith) back.became.1
         (λ bad at fault images told. first_image images bad at fault (subst (λ (l : List D). TellImages g.view l images) back.old_is told))
       where
-        first_image : (images : List (List ℕ)) (bad : BadImage) → bad.disk ≡ 0 → IfSome (g.view back.before).content (ledger.IsFirstFault (ledger.IsLedgerFault table limit) bad.fault) → TellImages g.view (back.before ∷ back.rest) images → IsFirstFault table limit bad images
+        first_image : (images : List (List ℕ)) (bad : BadImage) → bad.disk ≡ 0 → IfSome (g.view back.before).content (ledger.IsFirstFault (ledger.IsLedgerFault 0 table limit) bad.fault) → TellImages g.view (back.before ∷ back.rest) images → IsFirstFault table limit bad images
         first_image [] bad at fault told = absurd cc
-        first_image (image ∷ images) bad at fault told = inl (at, subst (λ o. IfSome o (ledger.IsFirstFault (ledger.IsLedgerFault table limit) bad.fault)) (head_of _ _ _ _ told) fault)
+        first_image (image ∷ images) bad at fault told = inl (at, subst (λ o. IfSome o (ledger.IsFirstFault (ledger.IsLedgerFault 0 table limit) bad.fault)) (head_of _ _ _ _ told) fault)
 
   -- THE COPIES BEHIND IT
 
@@ -86,7 +86,7 @@ module _ {D : Type 0} {g : Ghosts D} (table : Table) (limit : ℕ) where
       left_behind after new left is =
           let disk : D = disk_of (book.journal_of mounted) in
           let it : IsLeft g.view table (FailedAt reason) (IsBehind reason) 0 taken.disk disk = record {
-            mounted = mounted_for g.view (ledger.to_write table) ⊥ (FailedAt reason 0) taken.disk disk (not_first_failed most _ reason among) (λ never. absurd never) taken.has.disk_is;
+            mounted = mounted_for g.view (ledger.to_write 0 table) ⊥ (FailedAt reason 0) taken.disk disk (not_first_failed most _ reason among) (λ never. absurd never) taken.has.disk_is;
             behind = λ b. absurd (not_behind_first reason b);
           } in
           let both : AreLeft g.view table reason 0 (taken.disk ∷ mid) (disk ∷ after) = (it, left) in

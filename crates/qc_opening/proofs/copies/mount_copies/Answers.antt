@@ -55,7 +55,7 @@ returns-in-Err-clause-left g c =
     let all = waiting_in c.args.waiting.now in
     subst (λ (l : List g.row.D.Denot). AreLeft g.D.Disk.view c.args.table.now c.in-Err.reason 1 all l) (sym c.put_back_all.ensures.disks)
     (left_all c.args.table.now c.args.past.now c.args.limit all (waiting_in c.loop-copy.waiting) c.loop-copy.copies.items kept.so_far c.loop-copy.copy kept.count c.in-Err.reason (waiting_in c.mount_copy.new.waiting)
-    (λ disk fault. IfSome (g.D.Disk.view disk).content (IsFirstFault (IsCopyFault c.loop-copy.copy c.args.table.now c.args.past.now c.args.limit) fault)) c.in-Err.ensures.refused g.met.D.Disk.leaves_now)
+    (λ disk fault. IfSome (g.D.Disk.view disk).content (IsFirstFault (IsCopyFault (c.loop-copy.copy + 1) c.args.table.now c.args.past.now c.args.limit) fault)) c.in-Err.ensures.refused g.met.D.Disk.leaves_now)
 
 pub returns-in-Err-clause-reason : goal.returns-in-Err-clause-reason
 returns-in-Err-clause-reason g c =

@@ -1,5 +1,5 @@
 -- What the mounting of a copy says of the next disk.
-use Rattle.std.proofs.Common.{ap, arith, length}
+use Rattle.std.proofs.Common.{◌+◌, ap, arith, length}
 use Rattle.std.specs.Prelude.{IfSome}
 use Rattle.qc_ledger.specs.Image.{IsFirstFault}
 use Rattle.qc_site.specs.Image.{to_write, IsCopyFault}
@@ -38,7 +38,7 @@ returns-in-Err-clause-refused g c =
       rest = waiting_in c.take.new.self;
       old_is = c.take.ensures.disks;
       new_is = c.put_back.ensures.disks;
-      became = copy_refused g.D.Disk.view c.args.copy (to_write c.args.copy c.args.table.now) before c.in-Err.disk c.in-Err.no c.copy_reason.result
-          (λ fault. IfSome (g.D.Disk.view before).content (IsFirstFault (IsCopyFault c.args.copy c.args.table.now c.args.past.now c.args.limit) fault)) c.copy_reason.ensures
+      became = copy_refused g.D.Disk.view c.args.copy (to_write (c.args.copy + 1) c.args.table.now) before c.in-Err.disk c.in-Err.no c.copy_reason.result
+          (λ fault. IfSome (g.D.Disk.view before).content (IsFirstFault (IsCopyFault (c.args.copy + 1) c.args.table.now c.args.past.now c.args.limit) fault)) c.copy_reason.ensures
           (record { any_moment = told.any_moment; grows = told.grows; cause = told.cause; once = told.counts_once }) told.refused;
     }

@@ -33,7 +33,7 @@ returns-in-Err-clause-refused g c =
       rest = waiting_in c.take.new.self;
       old_is = c.take.ensures.disks;
       new_is = c.put_back.ensures.disks;
-      became = ledger_refused g.D.Disk.view (to_write c.args.table.now) before c.in-Err.disk c.in-Err.no c.ledger_reason.result
-          (λ fault. IfSome (g.D.Disk.view before).content (IsFirstFault (IsLedgerFault c.args.table.now c.args.limit) fault)) c.ledger_reason.ensures
+      became = ledger_refused g.D.Disk.view (to_write 0 c.args.table.now) before c.in-Err.disk c.in-Err.no c.ledger_reason.result
+          (λ fault. IfSome (g.D.Disk.view before).content (IsFirstFault (IsLedgerFault 0 c.args.table.now c.args.limit) fault)) c.ledger_reason.ensures
           (record { any_moment = told.any_moment; grows = told.grows; cause = told.cause; once = told.counts_once }) told.refused;
     }

@@ -28,7 +28,7 @@ run_named-ended-requires-clause-setting g c κs within =
     let store : IsStoreOver table told counts parts = search rules in
     let all : length parts.copies.items ≡ table.copies = search rules in
     let rows = c.in-Ok.ensures.base ∙ ap (map start_of) c.as_slice-2.ensures.value in
-    setting_proper (plan_of_script c.args.script.now) proper (told_by told) (bodies_found parts.book parts.copies.items) parts.epoch c.in-Ok.blank.base
+    setting_proper (plan_of_script c.args.script.now) proper (λ place. place) (told_by told) (bodies_found parts.book parts.copies.items) parts.epoch c.in-Ok.blank.base
     (mounted_by table told counts parts store all c.in-Ok.blank.base rows spelled c.known_range.ensures _ c.are_bytes.ensures c.records.ensures c.as_slice.result.now c.copies_are_of_bytes.ensures c.as_slice.ensures.value)
 
 pub run_named-ended-requires-clause-ledger : goal.run_named-ended-requires-clause-ledger

@@ -12,7 +12,7 @@ on_ok (Ok x) P is has = has
 on_ok (Err e) P is has = absurd (true≢false (sym is))
 
 pub finish-status-requires-clause-proper : goal.finish-status-requires-clause-proper
-finish-status-requires-clause-proper g c = setting_proper (plan_of_script c.args.script.now) c.requires.proper _ _ _ _ c.in-Ok.ensures.grown.mounted
+finish-status-requires-clause-proper g c = setting_proper (plan_of_script c.args.script.now) c.requires.proper (λ place. place) _ _ _ _ c.in-Ok.ensures.grown.mounted
 
 pub finish-status-requires-clause-as_many : goal.finish-status-requires-clause-as_many
 finish-status-requires-clause-as_many g c = c.in-Ok.ensures.grown.mounted.as_many

@@ -1,0 +1,7 @@
+-- What a store's pairs of disks keep of its history.
+pub mod WrittenBodies
+pub mod ActiveDisks
+pub mod PairsStand
+pub mod CutOffPairs
+pub mod NextMounting
+mod WorkedPairs

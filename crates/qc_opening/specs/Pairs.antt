@@ -1,0 +1,83 @@
+-- What the mountings of a store's pairs of disks found: pair 0 is the ledger's, pair c + 1 copy c's. What is of the disk of pair n
+-- stands at place n, and what is of its spare at place copies + 1 + n.
+use Rattle.std.specs.Prelude.{ℕ, ◌≡◌, ◌+◌, ◌<◌, Bool, true, false, if◌then◌else◌, List, [], ◌∷◌, length, map, Option}
+use Rattle.std.specs.List.{range_with_len}
+use Rattle.qc_codec.specs.Base.{copy_base, is_swapped, ledger_base}
+use Rattle.qc_codec.specs.Form.{Form}
+use Rattle.qc_codec.specs.declared.record.BaseRecord.{BaseRecord}
+use Rattle.qc_config.specs.declared.tuple.Tuple.{Tuple}
+use Rattle.qc_event.specs.declared.table.Table.{Table}
+use Rattle.qc_event.specs.History.{Past}
+use Rattle.qc_journal.specs.Image.{HasRecords}
+use Rattle.qc_ledger.specs.Image as tops
+use Rattle.qc_opening.specs.Mountings.{AreKept, HaveNoGrantsOn, IsCutOff, MountedOn}
+use Rattle.qc_pair.specs.Opening.{HaveActive}
+use Rattle.qc_pair.specs.Pair.{number_at}
+use Rattle.qc_pair.specs.declared.kind.Kind.TheVariants as kind
+use Rattle.qc_refine.specs.Pairs.{image_of, spare_image}
+use Rattle.qc_site.specs.Image as grants
+
+-- ONE OF EACH PAIR
+
+-- by which spares are active, the number of a pair's active disk
+abbrev pub active_number : (ℕ → Bool) → ℕ → ℕ
+active_number swapped pair = number_at (swapped pair) pair
+
+module _ (table : Table) where
+  -- of what stands at each place, what is of a pair's active disk
+  abbrev pub of_active : {A : Type 0} → (ℕ → Bool) → (ℕ → A) → ℕ → A
+  of_active swapped at pair = if swapped pair then at (table.copies + 1 + pair) else at pair
+
+  -- and what is of the other one
+  abbrev pub of_other : {A : Type 0} → (ℕ → Bool) → (ℕ → A) → ℕ → A
+  of_other swapped at pair = if swapped pair then at pair else at (table.copies + 1 + pair)
+
+  -- of each pair the image of the active disk
+  abbrev pub active_images : (ℕ → Bool) → List (List ℕ) → List (List ℕ)
+  active_images swapped images = map (of_active swapped (image_of table images)) (range_with_len 0 (table.copies + 1))
+
+-- THE PAIRS THAT WERE MOUNTED
+
+-- A store was mounted over pairs of disks that told this: of each pair the active disk, with these records in the end.
+pub record MountedInPairs (table : Table) (told : ℕ → Option (List ℕ)) (records : ℕ → List (List ℕ)) (epoch : ℕ) (base : List (List Tuple)) : Type 0 where
+  pub swapped : ℕ → Bool
+  pub mounted : MountedOn (active_number swapped) table (of_active table swapped told) records epoch base
+  pub ledger : HaveActive kind.Ledger 0 (told 0) (told (table.copies + 1 + 0)) (swapped 0) mounted.ledger.found
+  pub copies : (copy : ℕ) (there : copy < table.copies)
+      → HaveActive kind.Copy (copy + 1) (told (copy + 1)) (told (table.copies + 1 + (copy + 1))) (swapped (copy + 1)) (mounted.copies copy there).found
+
+-- Of each disk of these pairs one image: that of an active one tells what it keeps of a history behind the records, that of
+-- another has the records that it had.
+pub record AreKeptInPairs {table : Table} {told : ℕ → Option (List ℕ)} {records : ℕ → List (List ℕ)} {epoch : ℕ} {base : List (List Tuple)} (m : MountedInPairs table told records epoch base) (past : Past) (images : List (List ℕ)) : Type 0 where
+  pub as_many : length images ≡ table.copies + 1 + (table.copies + 1)
+  pub active : AreKept table base records past (active_images table m.swapped images)
+  pub ledger : HasRecords (if m.swapped 0 then m.ledger.own else m.ledger.spare) (of_other table m.swapped (image_of table images) 0)
+  pub copies : (copy : ℕ) (there : copy < table.copies)
+      → HasRecords (if m.swapped (copy + 1) then (m.copies copy there).own else (m.copies copy there).spare) (of_other table m.swapped (image_of table images) (copy + 1))
+
+-- The copies' disks told images on which no grant stands, and so did their spares: they were empty, or of a store that was just
+-- made.
+abbrev pub HaveNoGrantsInPairs : Table → (ℕ → Option (List ℕ)) → Type 0
+HaveNoGrantsInPairs table told = HaveNoGrantsOn (number_at false) table told × HaveNoGrantsOn (number_at true) table (λ pair. told (table.copies + 1 + pair))
+
+-- MOUNTINGS THAT WERE CUT OFF
+
+-- The images of a pair are left of others by a mounting that was cut off: the active one has the same records, and some first
+-- ones of those that a mounting writes behind them; the other one has the same records.
+pub record IsPairCutOff (form : Table → Form BaseRecord) (pair : ℕ) (written : ℕ → List (List ℕ) → List (List ℕ)) (image image' later later' : List ℕ) : Type 0 where
+  pub is_spare : Bool
+  pub own : IsCutOff (λ found. if is_spare then [] else written (number_at false pair) found) image later
+  pub spare : IsCutOff (λ found. if is_spare then written (number_at true pair) found else []) image' later'
+  pub swapped_is : is_spare ≡ is_swapped form own.found spare.found
+
+-- The images of each pair are left so of others.
+pub record AreCutOffInPairs (table : Table) (images later : List (List ℕ)) : Type 0 where
+  pub as_many : length later ≡ table.copies + 1 + (table.copies + 1)
+  pub ledger : IsPairCutOff ledger_base 0 (λ number. tops.to_write number table) (image_of table images 0) (spare_image table images 0) (image_of table later 0) (spare_image table later 0)
+  pub copies : (copy : ℕ) → copy < table.copies
+      → IsPairCutOff copy_base (copy + 1) (λ number. grants.to_write number table) (image_of table images (copy + 1)) (spare_image table images (copy + 1)) (image_of table later (copy + 1)) (spare_image table later (copy + 1))
+
+-- Mountings one after another were cut off, which left these images in turn, and then the last ones.
+abbrev pub AreLeftInPairs : Table → List (List ℕ) → List (List (List ℕ)) → List (List ℕ) → Type 0
+AreLeftInPairs table images [] last = last ≡ images
+AreLeftInPairs table images (next ∷ later) last = AreCutOffInPairs table images next × AreLeftInPairs table next later last
