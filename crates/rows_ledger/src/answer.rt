@@ -53,3 +53,20 @@ pub(crate) fn mounted(alloc: Global, epoch: u32, past: &Past) -> Result<String, 
     }
     Ok(text)
 }
+
+/// Which disk is active, by the number of the other one.
+pub(crate) fn active(alloc: Global, other: u8) -> Result<String, AllocError> {
+    said(
+        alloc,
+        if other == 0 {
+            "disk 17 active, "
+        } else {
+            "disk 0 active, "
+        },
+    )
+}
+
+/// Whether a step of a disk is one of its spare too: it changes nothing.
+pub(crate) fn of_both(name: &str) -> bool {
+    name == "bytes" || name == "calls"
+}

@@ -5,6 +5,8 @@ ghost use Rattle.qc_event.specs.History.{is_ready};
 ghost use Rattle.qc_desk.specs.Rules.{IsClient};
 
 use crate::answer::{done, no_such, not_now};
+use crate::fold::fold;
+use crate::folds::Folds;
 use qc_codec::{LedgerRecord, read_ledger};
 use qc_desk::{Blank, Desk, DeskNo, Pass, Store};
 use qc_disk::MemDisk;
@@ -56,13 +58,14 @@ fn log_next<N: Store, R: Wait>(
     done(alloc, ledger.log(rt, desk, pass, top, aborted.as_slice()))
 }
 
-// Logs the next top by the record that a word spells; or revives the ledger.
+// Logs the next top by the record that a word spells; or revives the ledger, or folds it.
 fn one_step<N: Store, R: Wait>(
     rt: &R,
     alloc: Global,
     desk: &Desk<N>,
     pass: &mut Pass<N>,
     ledger: &mut Ledger<MemDisk, N>,
+    folds: &mut Folds,
     word: &str,
 ) -> Result<String, AllocError>
     requires client { IsClient pass.old }
@@ -71,6 +74,9 @@ fn one_step<N: Store, R: Wait>(
 {
     if word == "revive" {
         return done(alloc, ledger.revive(rt, desk));
+    }
+    if word == "fold" {
+        return fold(alloc, ledger, folds);
     }
     let spelled = bytes(alloc, word)?;
     match read_ledger(alloc, &spelled) {
@@ -86,6 +92,7 @@ fn all_steps<N: Store, R: Wait>(
     desk: &Desk<N>,
     pass: &mut Pass<N>,
     ledger: &mut Ledger<MemDisk, N>,
+    folds: &mut Folds,
     words: &[&str],
 ) -> Result<String, AllocError>
     requires client { IsClient pass.old }
@@ -94,7 +101,7 @@ fn all_steps<N: Store, R: Wait>(
 {
     let mut text = String::new(alloc);
     for word in words {
-        let answer = one_step(rt, alloc, desk, pass, ledger, word)?;
+        let answer = one_step(rt, alloc, desk, pass, ledger, folds, word)?;
         text.push_str(answer.as_str())?;
         text.push_str(", ")?;
     }
@@ -106,6 +113,7 @@ fn run_named<N: Store, R: Wait>(
     alloc: Global,
     blank: Blank,
     book: Book<MemDisk>,
+    folds: &mut Folds,
     words: &[&str],
 ) -> (MemDisk, Trail, Result<String, AllocError>)
     requires desk { blank.room.shared.table_id ≡ N.desk }
@@ -114,7 +122,7 @@ fn run_named<N: Store, R: Wait>(
     let (desk, mut first) = blank.name::<N>();
     let pass = desk.split(rt, &mut first);
     let mut ledger = book.enter(pass);
-    let text = all_steps(rt, alloc, &desk, &mut first, &mut ledger, words);
+    let text = all_steps(rt, alloc, &desk, &mut first, &mut ledger, folds, words);
     let (disk, _) = ledger.into_parts();
     let (_, trail) = desk.close(first);
     (disk, trail, text)
@@ -141,17 +149,18 @@ fn counts(alloc: Global, entries: &[Entry]) -> Result<String, AllocError> {
     format!(in alloc; "{commits} commits, {unable} unable")
 }
 
-/// The ledger of a new desk goes through these words, which spell the records of its tops, or say `revive`. It answers
-/// what each did, and how many commits stand in the history, and how many tops that the ledger was unable to log.
+/// The ledger of a new desk goes through these words, which spell the records of its tops, or say `revive` or `fold`. It
+/// answers what each did, and how many commits stand in the history, and how many tops that the ledger was unable to log.
 pub(crate) fn over_desk<R: Wait>(
     rt: &R,
     alloc: Global,
     book: Book<MemDisk>,
     epoch: u32,
+    folds: &mut Folds,
     words: &[&str],
 ) -> Result<(MemDisk, String), AllocError> {
     let blank = Blank::new(alloc, Base::new(Vec::new(alloc)), epoch.max(1))?;
-    let (disk, trail, text) = run_named::<Brand, R>(rt, alloc, blank, book, words);
+    let (disk, trail, text) = run_named::<Brand, R>(rt, alloc, blank, book, folds, words);
     let mut told = text?;
     told.push_str(counts(alloc, trail.to_vec(alloc)?.as_slice())?.as_str())?;
     Ok((disk, told))

@@ -1,11 +1,13 @@
 //! Steps on a ledger.
+ghost use Rattle.std.specs.Prelude.{IfOk, IfSome};
 ghost use Rattle.qc_codec.specs.Bodies as body;
 
-use crate::answer::{done, hand_text, mounted as mounted_text, no_such, not_now};
+use crate::answer::{active, done, hand_text, mounted as mounted_text, no_such, not_now};
+use crate::folds::{Folds, Ready};
 use crate::state::State;
-use qc_codec::{LedgerRecord, read_ledger};
+use qc_codec::{LedgerRecord, Made, read_ledger};
 use qc_disk::MemDisk;
-use qc_ledger::{Shelf, mount};
+use qc_ledger::{Shelf, mount, mount_pair};
 use rows_kit::{Step, bytes, made_of, said};
 use std::alloc::{AllocError, Global};
 
@@ -15,22 +17,49 @@ const X0: &str = "010100010101780000000000000000010100010001";
 /// The same, where it starts with 1.
 const X1: &str = "010100010101780000000000000001010100010001";
 
+// How disk 0 was made, by the table that a step says.
+fn made(alloc: Global, step: &Step<'_>) -> Result<Option<Made>, AllocError>
+    ensures { IfOk result (λ made. IfSome made (λ m. (body.table 1).fits m.table)) }
+{
+    made_of(alloc, if step.word(1) == "x1" { X1 } else { X0 })
+}
+
 /// Mounts a ledger.
 pub(crate) fn mounted(
     alloc: Global,
     disk: MemDisk,
     step: &Step<'_>,
 ) -> Result<(State, String), AllocError> {
-    let spelled = if step.word(1) == "x1" { X1 } else { X0 };
-    let Some(made) = made_of(alloc, spelled)? else {
+    let Some(made) = made(alloc, step)? else {
         return State::Disk(disk).no_such(alloc);
     };
     match mount(alloc, disk, &made.table, step.number(0)) {
         Ok((book, past, epoch)) => {
             let text = mounted_text(alloc, epoch, &past)?;
-            Ok((State::Book(book, epoch), text))
+            Ok((State::Book(book, epoch, Folds::NoSpare), text))
         }
         Err((disk, no)) => Ok((State::Disk(disk), no.to_string(alloc)?)),
+    }
+}
+
+/// Mounts a ledger with its spare. A refusal gives the spare back beside the disk.
+pub(crate) fn both(
+    alloc: Global,
+    disk: MemDisk,
+    spare: MemDisk,
+    step: &Step<'_>,
+) -> Result<(State, Option<MemDisk>, String), AllocError> {
+    let Some(made) = made(alloc, step)? else {
+        return Ok((State::Disk(disk), Some(spare), no_such(alloc)?));
+    };
+    match mount_pair(alloc, disk, spare, &made.table, step.number(0)) {
+        Ok((book, fold, past, epoch)) => {
+            let mut text = active(alloc, fold.disk(0))?;
+            text.push_str(mounted_text(alloc, epoch, &past)?.as_str())?;
+            let folds = Folds::Ready(Ready { fold });
+            Ok((State::Book(book, epoch, folds), None, text))
+        }
+        Err((disk, spare, no)) => Ok((State::Disk(disk), Some(spare), no.to_string(alloc)?)),
     }
 }
 

@@ -5,16 +5,22 @@
 //! record `x`, which starts with 0 or 1.
 //! - `mem CALL done CALL not ..`: an empty disk in memory, which fails at these calls, its work done or not.
 //! - `image BODY ..`: a disk in memory with a journal of these records.
-//! - `cut N`, `add HEX`, `fail CALL done ..`, `bytes`, `calls`: of a disk. They make a new disk of its bytes.
+//! - `spare CALL done CALL not ..`: an empty spare in memory beside the disk. `other`: both change places.
+//! - `cut N`, `add HEX`, `fail CALL done ..`: of the disk, which is a new one of its bytes then. `bytes`, `calls`: of the
+//!   disk, and behind a stroke of its spare, where it has one.
 //! - `mount LIMIT TABLE`: mounts a ledger. `records`: of one that is mounted.
-//! - `desk BODY ..`: of one that is mounted. Over a desk of its own, tops are started and made ready in turn, each is
-//!   logged by its record, and `revive` among them revives the ledger. Its disk stays.
+//! - `pair LIMIT TABLE`: mounts a ledger from the active one of the disk and its spare, and tells which it is.
+//! - `desk BODY ..`: of one that is mounted. Over a desk of its own, tops are started and made ready in turn, and each is
+//!   logged by its record. Among them `revive` revives the ledger, and `fold` folds it into the other one of its pair,
+//!   where it is up and no fold of this mounting was refused. Its disks stay.
 //! - `open`: opens it. `log BODY`, `let`, `revive`, `hand`, `up`: of one that is open.
 #![tactic(auto)]
 
 mod answer;
 mod case;
 mod desk;
+mod fold;
+mod folds;
 mod ledger;
 mod state;
 
