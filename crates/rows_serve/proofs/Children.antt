@@ -1,34 +1,22 @@
 -- A child that has just started under a number; and a manager whose next access may ask.
-use Rattle.std.proofs.Common.{◌≡◌, ℕ, ◌+◌, ◌<◌, true, List, [], ◌∷◌, ◌++◌, length, refl, sym, ap, ap₂, ◌∙◌, subst, arith, append-nil}
+use Rattle.std.proofs.Common.{◌≡◌, ℕ, ◌+◌, true, length, refl, sym, ap, subst}
 use Rattle.std.specs.Prelude.{None, Some, IsTrue, is_some}
-use Rattle.std.specs.List.{AllByRecursion}
-use Rattle.std.specs.Option.{option_or}
-use Rattle.std.proofs.lemmas.Bool.{false_from_ne_true}
 use Rattle.qc_names.specs.Name as name
 use Rattle.qc_event.specs.declared.event.Ask.{Ask}
-use Rattle.qc_event.specs.declared.event.Event.{Event}
-use Rattle.qc_event.specs.declared.event.Event.TheVariants as event
 use Rattle.qc_event.specs.declared.event.Kind.{Kind}
 use Rattle.qc_event.specs.declared.event.Kind.TheVariants as kind
 use Rattle.qc_event.specs.Base.{Setting}
-use Rattle.qc_event.specs.History.{Past, Name, same, start, end, asked, ask_in, asks, children, is_child}
-use Rattle.qc_event.specs.Legal.{Legal, MayHappen}
+use Rattle.qc_event.specs.History.{Past, Name, start, end, asked, is_child}
 use Rattle.qc_event.specs.Manager.{AtStage, waiting}
-use Rattle.qc_event.specs.Requests.{IsNextAsk, MayAsk}
+use Rattle.qc_event.specs.Requests.{IsNextAsk}
 use Rattle.qc_event.specs.Seats.{is_client}
 use Rattle.qc_event.specs.Standing.{Started, IsManager}
 use Rattle.qc_event.specs.Starts.{Stands}
-use Rattle.qc_event.proofs.Absent.{same_is, if_not}
-use Rattle.qc_event.proofs.LastNumber.{child_front, is_child-last, length_last, child_last}
-use Rattle.qc_event.proofs.Lawful.{lawful, started_some}
-use Rattle.qc_event.proofs.LegalOrderly.{legal_orderly}
-use Rattle.qc_event.proofs.Lineage.{IsFresh, fresh_child, fresh_below}
-use Rattle.qc_event.proofs.OneEntry.{none_before, some_or_none, start_is}
+use Rattle.qc_event.proofs.LastNumber.{child_front}
 use Rattle.qc_event.proofs.Options.{match_some}
-use Rattle.qc_event.proofs.OwnRequests.{IsOwn, asks_own}
 use Rattle.qc_desk.specs.declared.view.View.{View}
-use Rattle.qc_desk.specs.Calling.{EnteredAs, StartsChild}
-use Rattle.qc_desk.specs.Entries.{AreOthers, IsOlder, entry}
+use Rattle.qc_desk.specs.Calling.{StartsChild}
+use Rattle.qc_desk.specs.Entries.{IsOlder}
 use Rattle.qc_desk.specs.Own.{IsMine, MayAskOwn}
 use Rattle.qc_desk.specs.Refusing.{against_child}
 use Rattle.qc_desk.proofs.AskedTops.{entered_as_later}

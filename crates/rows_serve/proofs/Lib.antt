@@ -1,5 +1,7 @@
 pub mod TwoRecords
 pub mod Children
 pub mod Stages
+pub mod Commits
 pub mod First
 pub mod Later
+pub mod Ended

@@ -1,6 +1,6 @@
 //! What was answered, as text.
 
-use qc_codec::read_grant;
+use qc_codec::{BaseRecord, read_base, read_grant};
 use qc_event::{Answered, Entry, Event, Grant, Op, Short};
 use qc_journal::Body;
 use qc_site::Strange;
@@ -74,15 +74,38 @@ pub(crate) fn strange(alloc: Global, why: &Strange) -> Result<String, AllocError
     }
 }
 
+// A base: its number, its epoch, and its tuples.
+fn base(alloc: Global, base: &BaseRecord) -> Result<String, AllocError> {
+    let (number, epoch) = (base.number, base.epoch);
+    let mut text = format!(in alloc; ", base {number} of epoch {epoch}:")?;
+    for tuple in base.tuples.as_slice() {
+        let (value, version) = (tuple.value, tuple.version);
+        let one = format!(in alloc; " {value} v{version}")?;
+        text.push_str(one.as_str())?;
+    }
+    Ok(text)
+}
+
 // A record behind the first.
 fn record(alloc: Global, body: &[u8]) -> Result<String, AllocError> {
+    if let Ok(found) = read_base(alloc, body, 1, 2) {
+        return base(alloc, &found);
+    }
     match read_grant(body, 1) {
         Ok(found) => grant(alloc, &found),
         Err(_) => said(alloc, ", no grant"),
     }
 }
 
-/// The records of a copy: how it was made, and its grants.
+/// Which disk is active, where there are two, before what else is told.
+pub(crate) fn active(alloc: Global, disk: Option<u8>) -> Result<String, AllocError> {
+    match disk {
+        Some(disk) => format!(in alloc; "disk {disk} active, "),
+        None => said(alloc, ""),
+    }
+}
+
+/// The records of a copy: how it was made, its base, where it has one, and its grants.
 pub(crate) fn records(alloc: Global, bodies: &[Body]) -> Result<String, AllocError> {
     let mut text = bodies.len().to_string(alloc)?;
     text.push_str(" records, made")?;

@@ -5,17 +5,26 @@
 //! starts with 7.
 //! - `mem CALL done CALL not ..`: an empty disk in memory, which fails at these calls, its work done or not.
 //! - `file FOLDER`: the disk of the copy in a folder. `folder NAME`, `remove NAME`: makes or removes a folder.
-//! - `calls`: of a disk in memory, how many were made. `lose`: it has then what was synced last, as after a crash.
-//! - `records`: what stands in the disk's journal, each grant with its tuple.
-//! - `run LIMIT, WORD, WORD ..`: mounts the copy, whose site then serves a client over a desk of their own. The words,
-//!   with `,` between, are printed in turn with what they answered; behind them what stands in the history: how many
-//!   grants, refusals and words of being unable, and each grant with its tuple. The disk stays.
+//! - `spare CALL done CALL not ..`: an empty spare in memory beside the disk. What is told of the disk is told of the
+//!   spare too then, behind a stroke.
+//! - `calls`: of a disk in memory, how many were made. `bytes`: what is there. `lose`: it has then what was synced last,
+//!   as after a crash.
+//! - `records`: what stands in the journal of the disk, or of the active one of both: its base, where it has one, with its
+//!   number, its epoch and its tuples, and each grant with its tuple.
+//! - `run LIMIT, WORD, WORD ..`: mounts the copy, by the active one where there are two, behind a ledger that told the
+//!   epochs of the runs before and the tops that committed in them. Its site then serves a client over a desk of their
+//!   own. The words, with `,` between, are printed in turn with what they answered; behind them what stands in the
+//!   history: how many grants, refusals and words of being unable, and each grant with its tuple. The disks stay.
 //!
 //! The words of a run:
 //! - `set RECORD VALUE`: a new top, whose manager sets a record. Its first access asks for the tuple.
-//! - `put`: that access takes its reply, and the next puts the value.
+//! - `child RECORD VALUE`: the same below the user transaction of the client's request, by a child of it.
+//! - `put`: that access takes its reply, and the next puts the value. `done`: that one takes its own, and the manager
+//!   commits.
 //! - `again`: the client's request once more.
-//! - `abort`: the top of the client's request is aborted. `swap`: the client goes on with the request before.
+//! - `commit`, `abort`: the user transaction of the client's request commits, a top by the ledger's word, or is aborted.
+//! - `swap`: the client goes on with the request before, of whose manager it knows no more.
+//! - `fold`: folds what the copy holds into the other disk, where each top has ended and no fold of this run was refused.
 //! - `crash`, `revive`, `up`, `strange`: of the site.
 //! - `spoil FOLDER PLACE HEX`: writes bytes into the file of the copy's disk, beside the site.
 #![tactic(auto)]
@@ -23,8 +32,13 @@
 mod answer;
 mod case;
 mod client;
+mod commit;
+mod disks;
+mod fold;
+mod folds;
 mod run;
 mod serve;
+mod served;
 mod start;
 mod words;
 

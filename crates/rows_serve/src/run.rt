@@ -7,22 +7,34 @@ ghost use Rattle.rows_serve.specs.TwoRecords.{IsOver};
 
 use crate::answer::{history, told};
 use crate::client::Client;
+use crate::disks::Disks;
+use crate::folds::Folds;
+use crate::served::Served;
 use crate::start::{base_of, is_ours};
 use crate::words::{Tools, one_word};
+use qc_codec::Logged;
 use qc_desk::{Blank, Desk, Pass, Store};
 use qc_disk::HomeDisk;
-use qc_site::{Mounted, Site};
+use qc_site::Mounted;
 use qc_trail::Trail;
 use std::alloc::{AllocError, Global};
 use std::marker::Brand;
 use std::sync::Wait;
+
+/// What came of a run: the disks, the tops that committed, and the lines.
+#[derive(Drop)]
+pub(crate) struct Ran {
+    pub(crate) disks: Disks,
+    pub(crate) logged: Vec<Logged>,
+    pub(crate) lines: Vec<String>,
+}
 
 // What each word answered, a line for each.
 fn all_words<N: Store, R: Wait>(
     tools: &Tools<'_, R>,
     desk: &Desk<N>,
     pass: &mut Pass<N>,
-    site: &mut Site<HomeDisk, N, 0>,
+    served: &mut Served<N>,
     words: &[&str],
 ) -> Result<Vec<String>, AllocError>
     requires client { IsClient pass.old }
@@ -34,21 +46,22 @@ fn all_words<N: Store, R: Wait>(
     let mut client = Client::new();
     for word in words {
         let word = word.trim_ascii();
-        let answer = one_word(tools, desk, pass, site, &mut client, word)?;
+        let answer = one_word(tools, desk, pass, served, &mut client, word)?;
         lines.push(told(tools.alloc, word, answer.as_str())?)?;
     }
     Ok(lines)
 }
 
-// The site of a mounted copy over a desk serves a client. The disk comes back, and the history.
+// The site of a mounted copy over a desk serves a client. The disks come back, the tops that committed, and the history.
 fn run_named<N: Store, R: Wait>(
     rt: &R,
     home: HostRuntime,
     alloc: Global,
     blank: Blank,
     copy: Mounted<HomeDisk>,
+    folds: Folds,
     words: &[&str],
-) -> (HomeDisk, Trail, Result<Vec<String>, AllocError>)
+) -> (Disks, Vec<Logged>, Trail, Result<Vec<String>, AllocError>)
     requires desk { blank.room.shared.table_id ≡ N.desk }
     requires base { blank.base ≡ N.base }
     requires over { IsOver N.table N.base }
@@ -56,38 +69,60 @@ fn run_named<N: Store, R: Wait>(
     requires start { start_of copy ≡ slice_index_or N.base 0 [] }
 {
     let (desk, mut first) = blank.name::<N>();
-    let _ledger = desk.split(rt, &mut first);
+    let ledger = desk.split(rt, &mut first);
     let pass = desk.split(rt, &mut first);
-    let mut site = copy.enter::<N, 0>(pass);
+    let mut served = Served {
+        ledger,
+        site: copy.enter::<N, 0>(pass),
+        folds,
+        logged: Vec::new(alloc),
+    };
     let tools = Tools { rt, home, alloc };
-    let lines = all_words(&tools, &desk, &mut first, &mut site, words);
+    let lines = all_words(&tools, &desk, &mut first, &mut served, words);
+    let Served {
+        site,
+        folds,
+        logged,
+        ..
+    } = served;
     let (disk, _) = site.into_parts();
     let (_, trail) = desk.close(first);
-    (disk, trail, lines)
+    (folds.into_disks(disk), logged, trail, lines)
 }
 
 /// The site of a mounted copy over a new desk with this epoch serves a client by its words: a line for each, and one for
-/// the history. The disk comes back.
+/// the history.
 pub(crate) fn over_desk<R: Wait>(
     rt: &R,
     home: HostRuntime,
     alloc: Global,
     copy: Mounted<HomeDisk>,
+    folds: Folds,
     epoch: u32,
     words: &str,
-) -> Result<(HomeDisk, Vec<String>), AllocError>
+) -> Result<Ran, AllocError>
     requires { (copy_of copy ≡ 0) × (copies_of copy ≡ 1) }
 {
     if !is_ours(copy.start()) {
         let mut lines = Vec::new(alloc);
         lines.push(told(alloc, "history", "other tuples")?)?;
-        return Ok((copy.into_disk(), lines));
+        return Ok(Ran {
+            disks: folds.into_disks(copy.into_disk()),
+            logged: Vec::new(alloc),
+            lines,
+        });
     }
     let words: Vec<&str> = words.split(',').collect(alloc)?;
     let base = base_of(alloc, copy.start())?;
     let blank = Blank::new(alloc, base, epoch.max(1))?;
-    let (disk, trail, lines) = run_named::<Brand, R>(rt, home, alloc, blank, copy, &words);
+    let (disks, logged, trail, lines) = run_named::<Brand, R>(
+        rt, home, alloc, blank, copy, folds, &words,
+    );
     let mut lines = lines?;
     lines.push(history(alloc, trail.to_vec(alloc)?.as_slice())?)?;
-    Ok((disk, lines))
+    Ok(Ran {
+        disks,
+        logged,
+        lines,
+    })
 }

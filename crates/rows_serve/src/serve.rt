@@ -7,7 +7,7 @@ ghost use Rattle.qc_event.specs.History.{Past};
 ghost use Rattle.qc_desk.specs.Entries.{IsOlder};
 ghost use Rattle.qc_desk.specs.Rules.{IsClient};
 ghost use Rattle.qc_site.specs.AtDesk.{IsGranted};
-ghost use Rattle.rows_serve.specs.Requests.{IsFirstOf, RequestStands};
+ghost use Rattle.rows_serve.specs.Requests.{IsFirstOf, IsPutOf, RequestStands};
 ghost use Rattle.rows_serve.specs.TwoRecords.{IsOver};
 
 use crate::client::Request;
@@ -24,6 +24,7 @@ fn note(request: &mut Request, answer: &Answered)
         → IsGranted 0 past (grant_with request.old.ask tuple)) → RequestStands past request.new }
     ensures ask { request.new.ask ≡ request.old.ask }
     ensures writer { request.new.writer ≡ request.old.writer }
+    ensures putter { request.new.putter ≡ request.old.putter }
 {
     match answer {
         Answered::Granted(tuple) => request.granted = Some(*tuple),
@@ -43,11 +44,13 @@ pub(crate) fn serve<N: Store, R: Wait>(
     requires over { IsOver N.table N.base }
     requires stands { RequestStands pass.old.seen request.old }
     requires first { IsFirstOf pass.old.seen pass.old.number request.old }
+    requires put { IsPutOf pass.old.seen pass.old.number request.old }
     ensures same { (pass.new.live ≡ pass.old.live) × (pass.new.number ≡ pass.old.number)
         × (pass.new.out ≡ pass.old.out) }
     ensures older { IsOlder pass.old.seen pass.new.seen }
     ensures stands { RequestStands pass.new.seen request.new }
     ensures first { IsFirstOf pass.new.seen pass.old.number request.new }
+    ensures put { IsPutOf pass.new.seen pass.old.number request.new }
 {
     pass.known();
     let served = site.serve(rt, desk, pass, &request.ask);

@@ -1,40 +1,95 @@
 //! The one copy of the store, mounted; and with which tuples it may start.
 ghost use Rattle.std.specs.Prelude.{◌↔◌, ◌≡◌, [], ◌∷◌, IfOk, IfSome, IsTrue};
+ghost use Rattle.qc_codec.specs.Bodies as body;
 ghost use Rattle.qc_site.specs.Mounted.{copies_of, copy_of};
 ghost use Rattle.rows_serve.specs.TwoRecords as words;
 
-use qc_codec::{Past, Tops};
+use crate::disks::Disks;
+use crate::folds::{Folds, Ready};
+use qc_codec::{Logged, Made, Names, Past, Tops};
 use qc_config::{Config, Tuple};
 use qc_disk::HomeDisk;
-use qc_event::Base;
-use qc_site::{Mounted, mount};
+use qc_event::{Base, Table};
+use qc_site::{Mounted, mount, mount_pair};
 use rows_kit::{made_of, said};
 use std::alloc::{AllocError, Global};
 
 /// How the copy's disk was made: one copy, with the record `x`, which starts with 5, and `y`, which starts with 7.
 const MADE: &str = "01010101020178000000000000000501010001000101790000000000000007010100010001";
 
-/// Mounts the copy behind a ledger that told so many epochs, and no top. A refusal hands the disk back, with its text.
-pub(crate) fn mounted(
-    alloc: Global,
-    disk: HomeDisk,
-    epoch: u32,
-    limit: u64,
-) -> Result<Result<Mounted<HomeDisk>, (HomeDisk, String)>, AllocError>
-    ensures { IfOk result (λ r. IfOk r (λ m. (copy_of m ≡ 0) × (copies_of m ≡ 1))) }
-{
-    let past = Past {
+/// What a ledger told of so many epochs, with these tops.
+pub(crate) fn past_of(alloc: Global, epoch: u32, logged: &[Logged]) -> Result<Past, AllocError> {
+    let mut tops = Vec::new(alloc);
+    for top in logged {
+        tops.push(Logged {
+            top: top.top,
+            aborted: Names::new(top.aborted.as_slice().to_vec(alloc)?),
+        })?;
+    }
+    Ok(Past {
         epoch,
         base: None,
-        tops: Tops::new(Vec::new(alloc)),
+        tops: Tops::new(tops),
+    })
+}
+
+// How the copy's disk was made, where it is of one copy.
+fn one_copy(alloc: Global) -> Result<Option<Made>, AllocError>
+    ensures proper { IfOk result (λ made. IfSome made (λ m. (body.table 1).fits m.table)) }
+    ensures one { IfOk result (λ made. IfSome made (λ m. m.table.copies ≡ 1)) }
+{
+    match made_of(alloc, MADE)? {
+        Some(made) if made.table.copies == 1 => Ok(Some(made)),
+        _ => Ok(None),
+    }
+}
+
+// Mounts both, with what the one that is read is folded into.
+fn both(
+    alloc: Global,
+    own: HomeDisk,
+    spare: HomeDisk,
+    table: &Table,
+    past: &Past,
+    limit: u64,
+) -> Result<Result<(Mounted<HomeDisk>, Folds), (Disks, String)>, AllocError>
+    requires proper { (body.table 1).fits table.now }
+    requires one { table.now.copies ≡ 1 }
+    ensures { IfOk result (λ r. IfOk r (λ m. (copy_of m.0 ≡ 0) × (copies_of m.0 ≡ 1))) }
+{
+    let epoch = past.epoch.saturating_add(1);
+    match mount_pair(alloc, 0, own, spare, table, past, epoch, limit) {
+        Ok((copy, fold)) => Ok(Ok((copy, Folds::Ready(Ready { fold })))),
+        Err((own, spare, no)) => {
+            let disks = Disks {
+                own,
+                spare: Some(spare),
+            };
+            Ok(Err((disks, no.to_string(alloc)?)))
+        }
+    }
+}
+
+/// Mounts the copy behind what a ledger told, and its spare too, where it has one. A refusal hands the disks back, with
+/// its text.
+pub(crate) fn mounted(
+    alloc: Global,
+    disks: Disks,
+    past: &Past,
+    limit: u64,
+) -> Result<Result<(Mounted<HomeDisk>, Folds), (Disks, String)>, AllocError>
+    ensures { IfOk result (λ r. IfOk r (λ m. (copy_of m.0 ≡ 0) × (copies_of m.0 ≡ 1))) }
+{
+    let Some(made) = one_copy(alloc)? else {
+        return Ok(Err((disks, said(alloc, "no table")?)));
     };
-    let made = match made_of(alloc, MADE)? {
-        Some(made) if made.table.copies == 1 => made,
-        _ => return Ok(Err((disk, said(alloc, "no table")?))),
-    };
-    match mount(alloc, 0, disk, &made.table, &past, limit) {
-        Ok(copy) => Ok(Ok(copy)),
-        Err((disk, no)) => Ok(Err((disk, no.to_string(alloc)?))),
+    let Disks { own, spare } = disks;
+    if let Some(spare) = spare {
+        return both(alloc, own, spare, &made.table, past, limit);
+    }
+    match mount(alloc, 0, own, &made.table, past, limit) {
+        Ok(copy) => Ok(Ok((copy, Folds::NoSpare))),
+        Err((own, no)) => Ok(Err((Disks { own, spare: None }, no.to_string(alloc)?))),
     }
 }
 

@@ -8,8 +8,11 @@ ghost use Rattle.rows_serve.specs.Requests.{Knows};
 ghost use Rattle.rows_serve.specs.TwoRecords.{IsOver};
 
 use crate::answer::{served, strange};
-use crate::client::{Client, abort, plain, put, replied, set};
+use crate::client::{Client, abort, complete, plain, put, replied, set, set_child, told_put};
+use crate::commit::commit;
+use crate::fold::fold;
 use crate::serve::serve;
+use crate::served::Served;
 use qc_desk::{Desk, Pass, Store};
 use qc_disk::HomeDisk;
 use qc_site::Site;
@@ -88,6 +91,43 @@ fn begin<N: Store, R: Wait>(
     }
 }
 
+// A new child of the request's user transaction, none deeper than 16, sets a record, and its first request is served.
+fn begin_below<N: Store, R: Wait>(
+    tools: &Tools<'_, R>,
+    desk: &Desk<N>,
+    pass: &mut Pass<N>,
+    site: &mut Site<HomeDisk, N, 0>,
+    client: &mut Client,
+    step: &Step<'_>,
+) -> Result<String, AllocError>
+    requires client { IsClient pass.old }
+    requires over { IsOver N.table N.base }
+    requires knows { Knows pass.old.seen pass.old.number client.old }
+    ensures same { (pass.new.live ≡ pass.old.live) × (pass.new.number ≡ pass.old.number)
+        × (pass.new.out ≡ pass.old.out) }
+    ensures knows { Knows pass.new.seen pass.old.number client.new }
+{
+    let Some(request) = client.now else {
+        return said(tools.alloc, "no request");
+    };
+    if request.user.len() >= 16 {
+        return said(tools.alloc, "too deep");
+    }
+    let before = plain(&client.now);
+    let rec = record_of(step.word(0));
+    match set_child(tools.rt, desk, pass, &request, rec, step.number(1)) {
+        Ok(next) => {
+            client.now = Some(next);
+            client.before = before;
+            ask(tools, desk, pass, site, client)
+        }
+        Err(no) => {
+            *client = Client::new();
+            no.to_string(tools.alloc)
+        }
+    }
+}
+
 // The manager of the client's request puts its value, and that request is served.
 fn go_on<N: Store, R: Wait>(
     tools: &Tools<'_, R>,
@@ -121,7 +161,68 @@ fn go_on<N: Store, R: Wait>(
     }
 }
 
-// The top of the client's request is aborted.
+// The manager of the client's request, which has put its value, commits.
+fn finish<N: Store, R: Wait>(
+    tools: &Tools<'_, R>,
+    desk: &Desk<N>,
+    pass: &mut Pass<N>,
+    client: &mut Client,
+) -> Result<String, AllocError>
+    requires client { IsClient pass.old }
+    requires over { IsOver N.table N.base }
+    requires knows { Knows pass.old.seen pass.old.number client.old }
+    ensures same { (pass.new.live ≡ pass.old.live) × (pass.new.number ≡ pass.old.number)
+        × (pass.new.out ≡ pass.old.out) }
+    ensures knows { Knows pass.new.seen pass.old.number client.new }
+{
+    let Some(request) = client.now else {
+        return said(tools.alloc, "no request");
+    };
+    let Some((putter, tuple)) = told_put(&request) else {
+        return said(tools.alloc, "nothing was put");
+    };
+    client.now = plain(&client.now);
+    match complete(tools.rt, desk, pass, &request, &putter, &tuple) {
+        Ok(()) => said(tools.alloc, "ok"),
+        Err(no) => {
+            *client = Client::new();
+            no.to_string(tools.alloc)
+        }
+    }
+}
+
+// The user transaction of the client's request commits.
+fn settle<N: Store, R: Wait>(
+    tools: &Tools<'_, R>,
+    desk: &Desk<N>,
+    pass: &mut Pass<N>,
+    served: &mut Served<N>,
+    client: &mut Client,
+) -> Result<String, AllocError>
+    requires client { IsClient pass.old }
+    requires knows { Knows pass.old.seen pass.old.number client.old }
+    ensures same { (pass.new.live ≡ pass.old.live) × (pass.new.number ≡ pass.old.number)
+        × (pass.new.out ≡ pass.old.out) }
+    ensures knows { Knows pass.new.seen pass.old.number client.new }
+{
+    let Some(request) = client.now else {
+        return said(tools.alloc, "no request");
+    };
+    client.now = plain(&client.now);
+    match commit(tools.rt, desk, pass, &mut served.ledger, &request) {
+        Ok(Some(logged)) => {
+            served.logged.push(logged)?;
+            said(tools.alloc, "ok")
+        }
+        Ok(None) => said(tools.alloc, "ok"),
+        Err(no) => {
+            *client = Client::new();
+            no.to_string(tools.alloc)
+        }
+    }
+}
+
+// The user transaction of the client's request is aborted.
 fn give_up<N: Store, R: Wait>(
     tools: &Tools<'_, R>,
     desk: &Desk<N>,
@@ -208,7 +309,7 @@ pub(crate) fn one_word<N: Store, R: Wait>(
     tools: &Tools<'_, R>,
     desk: &Desk<N>,
     pass: &mut Pass<N>,
-    site: &mut Site<HomeDisk, N, 0>,
+    served: &mut Served<N>,
     client: &mut Client,
     word: &str,
 ) -> Result<String, AllocError>
@@ -221,15 +322,19 @@ pub(crate) fn one_word<N: Store, R: Wait>(
 {
     let step = Step::of(tools.alloc, word)?;
     match step.name {
-        "set" => begin(tools, desk, pass, site, client, &step),
-        "put" => go_on(tools, desk, pass, site, client),
-        "again" => ask(tools, desk, pass, site, client),
+        "set" => begin(tools, desk, pass, &mut served.site, client, &step),
+        "child" => begin_below(tools, desk, pass, &mut served.site, client, &step),
+        "put" => go_on(tools, desk, pass, &mut served.site, client),
+        "again" => ask(tools, desk, pass, &mut served.site, client),
+        "done" => finish(tools, desk, pass, client),
+        "commit" => settle(tools, desk, pass, served, client),
         "abort" => give_up(tools, desk, pass, client),
         "swap" => {
             swap(client);
             said(tools.alloc, "ok")
         }
+        "fold" => fold(tools, desk, pass, served, client),
         "spoil" => spoil(tools.home, tools.alloc, &step),
-        name => on_site(tools, desk, site, name),
+        name => on_site(tools, desk, &mut served.site, name),
     }
 }

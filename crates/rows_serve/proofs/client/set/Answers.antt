@@ -1,37 +1,16 @@
-use Rattle.std.proofs.Common.{arith}
 use Rattle.qc_event.specs.Tables.{setting_of}
-use Rattle.qc_desk.proofs.AskedTops.{may_be_ready}
-use Rattle.rows_serve.proofs.First.{manager_stands, access_stands, own_request, set_client, set_later, set_stands, set_first}
+use Rattle.qc_desk.specs.Refusing.{against_nothing}
+use Rattle.qc_desk.proofs.AskedTops.{IsTop, entered_as_later, on_ok, top_begun}
+use Rattle.qc_desk.proofs.Seers.{older_trans}
 use Rattle.rows_serve.proofs.client.set.Goals as goal
 
-pub start-requires-clause-stands : goal.start-requires-clause-stands
-start-requires-clause-stands g c =
-    manager_stands g.N.Store.table g.N.Store.base c.requires.over c.args.desk.now.epoch c.args.rec c.args.value c.in_ok-top.top c.args.pass.now c.start_top.new.pass c.requires.within c.in_ok-top.ensures.ok c.known.ensures.legal
-
-pub start-requires-2-clause-stands : goal.start-requires-2-clause-stands
-start-requires-2-clause-stands g c =
-    let one = (may_be_ready (setting_of g.N.Store.table g.N.Store.base) c.args.desk.now.epoch 0 0 c.args.pass.now c.start_top.new.pass c.in_ok-top.top c.in_ok-top.ensures.ok c.known.ensures.legal).0 in
-    access_stands g.N.Store.table g.N.Store.base c.requires.over c.args.rec c.args.value c.in_ok-top.top c.in_ok-manager.manager c.start_top.new.pass c.start.new.pass c.in_ok-manager.ensures.ok c.known-2.ensures.legal (omega (arith, one))
-
-pub ask-requires-clause-own : goal.ask-requires-clause-own
-ask-requires-clause-own g c =
-    let one = (may_be_ready (setting_of g.N.Store.table g.N.Store.base) c.args.desk.now.epoch 0 0 c.args.pass.now c.start_top.new.pass c.in_ok-top.top c.in_ok-top.ensures.ok c.known.ensures.legal).0 in
-    own_request g.N.Store.table g.N.Store.base c.requires.over c.args.rec c.args.value c.in_ok-top.top c.in_ok-manager.manager c.start_top.new.pass c.start.new.pass c.in_ok-manager.ensures.ok c.known-2.ensures.legal (omega (arith, one))
-    c.in_ok-access.access c.start-2.new.pass c.in_ok-access.ensures.ok c.known-3.ensures.legal
-    (set_client g.N.Store.table g.N.Store.base c.requires.over c.args.desk.now.epoch c.args.rec c.args.value c.in_ok-top.top c.in_ok-manager.manager c.in_ok-access.access c.args.pass.now c.start_top.new.pass c.start.new.pass c.start-2.new.pass c.in_ok-top.ensures.ok c.in_ok-manager.ensures.ok c.in_ok-access.ensures.ok c.requires.client)
-    c.requires.within
+pub set_below-requires-clause-user : goal.set_below-requires-clause-user
+set_below-requires-clause-user g c =
+    top_begun (setting_of g.N.Store.table g.N.Store.base) c.args.desk.now.epoch 0 0 c.args.pass.now c.start_top.new.pass c.in_ok-top.top c.in_ok-top.ensures.ok c.known.ensures.legal
 
 pub returns-clause-older : goal.returns-clause-older
 returns-clause-older g c =
-    set_later g.N.Store.table g.N.Store.base c.requires.over c.args.desk.now.epoch c.args.rec c.args.value c.in_ok-top.top c.in_ok-manager.manager c.in_ok-access.access c.args.pass.now c.start_top.new.pass c.start.new.pass c.start-2.new.pass c.in_ok-top.ensures.ok c.in_ok-manager.ensures.ok c.in_ok-access.ensures.ok c.ask.new.pass c.in_ok-ask.ensures.ok
-
-pub returns-clause-stands : goal.returns-clause-stands
-returns-clause-stands g c =
-    set_stands g.N.Store.table g.N.Store.base c.requires.over c.args.desk.now.epoch c.args.rec c.args.value c.in_ok-top.top c.in_ok-manager.manager c.in_ok-access.access c.args.pass.now c.start_top.new.pass c.start.new.pass c.start-2.new.pass c.in_ok-top.ensures.ok c.in_ok-manager.ensures.ok c.in_ok-access.ensures.ok c.ask.new.pass c.in_ok-ask.ensures.ok
-    _ c.known.ensures.legal c.known-4.ensures.legal
-
-pub returns-clause-first : goal.returns-clause-first
-returns-clause-first g c =
-    let one = (may_be_ready (setting_of g.N.Store.table g.N.Store.base) c.args.desk.now.epoch 0 0 c.args.pass.now c.start_top.new.pass c.in_ok-top.top c.in_ok-top.ensures.ok c.known.ensures.legal).0 in
-    set_first g.N.Store.table g.N.Store.base c.requires.over c.args.desk.now.epoch c.args.rec c.args.value c.in_ok-top.top c.in_ok-manager.manager c.in_ok-access.access c.args.pass.now c.start_top.new.pass c.start.new.pass c.start-2.new.pass c.in_ok-top.ensures.ok c.in_ok-manager.ensures.ok c.in_ok-access.ensures.ok c.ask.new.pass c.in_ok-ask.ensures.ok
-    c.requires.client c.requires.within (omega (arith, one)) c.known-2.ensures.legal c.known-3.ensures.legal c.known-4.ensures.legal
+    on_ok c.set_below.result _ _
+    (older_trans c.args.pass.now.seen c.start_top.new.pass.seen c.set_below.new.pass.seen
+    (entered_as_later against_nothing (IsTop c.args.desk.now.epoch 0 0 c.in_ok-top.top) c.args.pass.now c.start_top.new.pass c.in_ok-top.ensures.ok))
+    c.set_below.ensures.older

@@ -5,8 +5,8 @@ use Rattle.qc_event.specs.declared.event.Ask.{Ask}
 use Rattle.qc_event.specs.Tables.{setting_of}
 use Rattle.qc_site.specs.AtDesk.{IsGranted}
 use Rattle.qc_site.specs.Calls.{AnswerRests, site_state}
-use Rattle.rows_serve.specs.Requests.{IsFirst}
-use Rattle.rows_serve.proofs.Later.{stands_later, of_others, first_of_since}
+use Rattle.rows_serve.specs.Requests.{IsFirst, IsPut}
+use Rattle.rows_serve.proofs.Later.{stands_later, of_others, first_of_since, put_of_since}
 use Rattle.rows_serve.proofs.serve.serve.Goals as goal
 
 pub returns-in-Ok-clause-stands : goal.returns-in-Ok-clause-stands
@@ -19,10 +19,19 @@ pub returns-in-Ok-clause-first : goal.returns-in-Ok-clause-first
 returns-in-Ok-clause-first g c =
     let v = c.args.pass.now in
     let w = c.serve-served.new.seer in
-    let first = first_of_since (setting_of g.N.Store.table g.N.Store.base) v.seen w.seen v.number c.args.request.now.ask c.args.request.now.writer c.known-2.ensures.legal
-    (of_others v w c.requires.client c.known.ensures.mine c.known-2.ensures.mine c.serve-served.ensures.seer) c.requires.first in
+    let first = first_of_since (setting_of g.N.Store.table g.N.Store.base) v.seen w.seen v.number c.args.request.now.ask c.known-2.ensures.legal
+    (of_others v w c.requires.client c.known.ensures.mine c.known-2.ensures.mine c.serve-served.ensures.seer) c.args.request.now.writer c.requires.first in
     subst (λ (ask : Ask). IfSome c.note.new.request.writer (λ m. IsFirst w.seen v.number ask m.manager m.value)) (sym c.note.ensures.ask)
     (subst (λ o. IfSome o (λ m. IsFirst w.seen v.number c.args.request.now.ask m.manager m.value)) (sym c.note.ensures.writer) first)
+
+pub returns-in-Ok-clause-put : goal.returns-in-Ok-clause-put
+returns-in-Ok-clause-put g c =
+    let v = c.args.pass.now in
+    let w = c.serve-served.new.seer in
+    let put = put_of_since (setting_of g.N.Store.table g.N.Store.base) v.seen w.seen v.number c.args.request.now.ask c.known-2.ensures.legal
+    (of_others v w c.requires.client c.known.ensures.mine c.known-2.ensures.mine c.serve-served.ensures.seer) c.args.request.now.putter c.requires.put in
+    subst (λ (ask : Ask). IfSome c.note.new.request.putter (λ m. IsPut w.seen v.number ask m.manager m.value)) (sym c.note.ensures.ask)
+    (subst (λ o. IfSome o (λ m. IsPut w.seen v.number c.args.request.now.ask m.manager m.value)) (sym c.note.ensures.putter) put)
 
 pub returns-in-Err-clause-stands : goal.returns-in-Err-clause-stands
 returns-in-Err-clause-stands g c = stands_later c.args.pass.now.seen c.serve-served.new.seer.seen c.args.request.now c.serve-served.ensures.seer.older c.requires.stands
@@ -31,5 +40,12 @@ pub returns-in-Err-clause-first : goal.returns-in-Err-clause-first
 returns-in-Err-clause-first g c =
     let v = c.args.pass.now in
     let w = c.serve-served.new.seer in
-    first_of_since (setting_of g.N.Store.table g.N.Store.base) v.seen w.seen v.number c.args.request.now.ask c.args.request.now.writer c.known-2.ensures.legal
-    (of_others v w c.requires.client c.known.ensures.mine c.known-2.ensures.mine c.serve-served.ensures.seer) c.requires.first
+    first_of_since (setting_of g.N.Store.table g.N.Store.base) v.seen w.seen v.number c.args.request.now.ask c.known-2.ensures.legal
+    (of_others v w c.requires.client c.known.ensures.mine c.known-2.ensures.mine c.serve-served.ensures.seer) c.args.request.now.writer c.requires.first
+
+pub returns-in-Err-clause-put : goal.returns-in-Err-clause-put
+returns-in-Err-clause-put g c =
+    let v = c.args.pass.now in
+    let w = c.serve-served.new.seer in
+    put_of_since (setting_of g.N.Store.table g.N.Store.base) v.seen w.seen v.number c.args.request.now.ask c.known-2.ensures.legal
+    (of_others v w c.requires.client c.known.ensures.mine c.known-2.ensures.mine c.serve-served.ensures.seer) c.args.request.now.putter c.requires.put

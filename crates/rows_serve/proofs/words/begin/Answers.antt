@@ -11,7 +11,7 @@ ask-requires-clause-knows g c =
     let seat = c.args.pass.now.number in
     let before = c.plain-before.result in
     subst (λ (n : ℕ). Knows now n (record { now = Some c.in-Ok.request; before = before })) (sym c.set.ensures.same.1)
-    (knows now seat (Some c.in-Ok.request) before c.in-Ok.ensures.stands c.in-Ok.ensures.first
+    (knows now seat (Some c.in-Ok.request) before c.in-Ok.ensures.stands c.in-Ok.ensures.first c.in-Ok.ensures.put
     (all_later was now before c.in-Ok.ensures.older (c.plain-before.ensures.stands was (stands_now was seat c.args.client.now c.requires.knows))))
 
 pub returns-in-Err-clause-knows : goal.returns-in-Err-clause-knows

@@ -9,7 +9,7 @@ returns-in-Ok-clause-knows g c =
     let client = c.args.client.now in
     knows now seat c.plain-client.result client.before
     (all_later was now c.plain-client.result c.in-Ok.ensures.older (c.plain-client.ensures.stands was (stands_now was seat client c.requires.knows)))
-    (c.plain-client.ensures.first now seat)
+    (c.plain-client.ensures.first now seat) (c.plain-client.ensures.put now seat)
     (all_later was now client.before c.in-Ok.ensures.older c.requires.knows.before)
 
 pub returns-in-Err-clause-knows : goal.returns-in-Err-clause-knows

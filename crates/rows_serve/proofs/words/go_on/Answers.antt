@@ -9,7 +9,7 @@ ask-requires-clause-knows g c =
     let now = c.put.new.pass.seen in
     let before = c.args.client.now.before in
     subst (λ (n : ℕ). Knows now n (record { now = Some c.in-Ok.next; before = before })) (sym c.put.ensures.same.1)
-    (knows now c.args.pass.now.number (Some c.in-Ok.next) before c.in-Ok.ensures.stands c.in-Ok.ensures.first
+    (knows now c.args.pass.now.number (Some c.in-Ok.next) before c.in-Ok.ensures.stands c.in-Ok.ensures.first c.in-Ok.ensures.put
     (all_later c.args.pass.now.seen now before c.in-Ok.ensures.older c.requires.knows.before))
 
 pub returns-in-Err-clause-knows : goal.returns-in-Err-clause-knows
