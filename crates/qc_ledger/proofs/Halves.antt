@@ -16,14 +16,14 @@ use Rattle.qc_journal.specs.declared.journal.Journal.{Journal}
 use Rattle.qc_journal.proofs.Moments.{continues, grows_on, weakened}
 use Rattle.qc_ledger.specs.Image.{AreLedgers, AreMountableAsLedger, IsLedgerFault, to_write}
 use Rattle.qc_ledger.specs.Mounted.{HasSome, journal_of, records_of}
-use Rattle.qc_ledger.specs.Pairs.{IsLedgerPairNo, MountsHalf, MountsLedgerPair, own_disk, pair_no, spare_disk}
+use Rattle.qc_ledger.specs.Pairs.{IsLedgerPairNo, MountsHalf, MountsLedgerPair, pair_no}
 use Rattle.qc_ledger.specs.Refusing.{IsOfLedgerImage}
 use Rattle.qc_ledger.specs.Runs.{Costs, CostsOnce, Leaves, LosesNone}
 use Rattle.qc_ledger.specs.declared.book.Book.{Book}
 use Rattle.qc_ledger.specs.declared.fault.LedgerNo.{LedgerNo}
 use Rattle.qc_ledger.specs.declared.fault.LedgerNo.TheVariants as ledger_no
 use Rattle.qc_ledger.proofs.Mounts.{fine_told}
-use Rattle.qc_pair.specs.Fold.{active_number, other_in, swapped_in}
+use Rattle.qc_pair.specs.Fold.{active_number, other_in, own_disk, spare_disk, swapped_in}
 use Rattle.qc_pair.specs.Opening.{active_told, HaveActive, IsMountNo, MountsDisk, OpensPair}
 use Rattle.qc_pair.specs.Pair.{active_of, number_at, number_of, other_of, swapped}
 use Rattle.qc_pair.specs.declared.fault.PairNo.{PairNo}

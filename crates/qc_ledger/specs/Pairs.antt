@@ -1,5 +1,5 @@
 -- What the mounting of a pair gives, and what it leaves of each of its disks.
-use Rattle.std.specs.Prelude.{ℕ, ◌⊎◌, Bool, List, Option, IsSome, Result, Ok, Err, if◌then◌else◌}
+use Rattle.std.specs.Prelude.{ℕ, ◌⊎◌, Bool, List, Option, IsSome, Result, Ok, Err}
 use Rattle.qc_disk.specs.Disk.{CountsOnce, DiskView, Grows, HasCause, LeavesOnly}
 use Rattle.qc_disk.specs.declared.disk.Disk.{Ghosts}
 use Rattle.qc_event.specs.declared.table.Table.{Table}
@@ -13,7 +13,7 @@ use Rattle.qc_ledger.specs.Mounted.{HasSome, MountsLedger, journal_of, records_o
 use Rattle.qc_ledger.specs.declared.book.Book.{Book}
 use Rattle.qc_ledger.specs.declared.fault.LedgerNo.{LedgerNo}
 use Rattle.qc_ledger.specs.declared.fault.LedgerNo.TheVariants as ledger_no
-use Rattle.qc_pair.specs.Fold.{other_in, swapped_in}
+use Rattle.qc_pair.specs.Fold.{own_disk, spare_disk, swapped_in}
 use Rattle.qc_pair.specs.Opening.{active_told, HaveActive, IsMountNo, OpensFold}
 use Rattle.qc_pair.specs.Pair.{number_at}
 use Rattle.qc_pair.specs.declared.fault.PairNo.{PairNo}
@@ -37,13 +37,6 @@ module _ (kind : Kind) (who : ℕ) (told spare_told : Option (List ℕ)) (writte
     pub grows : IsSome (view old).content → (index : ℕ) (had : List ℕ) → Grows view old new (HasAt index had)
     pub cause : HasCause (view old).faults (view new).faults Failed
     pub counts_once : CountsOnce (view old).faults (view new).faults Failed
-
--- the disk itself and its spare, of which one is active
-abbrev pub own_disk : {D : Type 0} {g : Ghosts D} → Fold D g → D → D
-own_disk fold active = if swapped_in fold then disk_of (other_in fold) else active
-
-abbrev pub spare_disk : {D : Type 0} {g : Ghosts D} → Fold D g → D → D
-spare_disk fold active = if swapped_in fold then active else disk_of (other_in fold)
 
 -- THE LEDGER'S PAIR
 

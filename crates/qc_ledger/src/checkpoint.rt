@@ -1,11 +1,11 @@
 //! How the ledger's journal is folded into the other one of its pair.
-ghost use Rattle.std.specs.Prelude.{◌≡◌, ◌↔◌, ℕ, List, [], IfErr, OnOk, IsErrOf, IsTrue, Err};
+ghost use Rattle.std.specs.Prelude.{◌≡◌, ◌↔◌, ◌≤◌, ◌^◌, ℕ, List, [], IfErr, OnOk, IsErrOf, IsTrue, Err};
 ghost use Rattle.qc_disk.specs.Disk.{CountsOnce, HasCause, LeavesOnly};
 ghost use Rattle.qc_journal.specs.Journal.{disk_of, IsUp, Keeps};
 ghost use Rattle.qc_ledger.specs.Refusing.{IsCheckpointNo};
 ghost use Rattle.qc_ledger.specs.Shelf.{journal_in};
 ghost use Rattle.qc_ledger.specs.declared.fault.LedgerNo.TheVariants.{Full};
-ghost use Rattle.qc_pair.specs.Fold.{folded_base, folded_bodies, made_in, other_in, IsFullFor, IsSameFold};
+ghost use Rattle.qc_pair.specs.Fold.{active_number, folded_base, folded_bodies, made_in, other_in, IsFullFor, IsSameFold};
 ghost use Rattle.qc_pair.specs.Folding.{IsFolding};
 
 use crate::fault::{LedgerNo, log_no};
@@ -39,11 +39,13 @@ impl<D: Disk, N: Store> Ledger<D, N> {
             → LeavesOnly D.view (disk_of (other_in fold.old)) (disk_of (other_in fold.new))
             (IsFolding bodies (made_in fold.old) (folded_base fold.old [])) }
 
-        // Full comes where a body would pass the limit or the last number was used up, and nowhere else. A fault of the disk
-        // is told exactly where its count rose, by one.
+        // Full comes where a body would pass the limit or the last number was used up, and nowhere else. Where the latter
+        // is so, the other journal is as it was. A fault of the disk is told exactly where its count rose, by one.
         ensures refused { IfErr result IsCheckpointNo }
         ensures full { (place : ℕ) → result ≡ Err (Full place) → IsFullFor fold.old [] place }
         ensures room { OnOk result ((place : ℕ) → IsFullFor fold.old [] place → ⊥) }
+        ensures last { 2 ^ 63 ≤ active_number fold.old
+            → (result ≡ Err (Full 0)) × (other_in fold.new ≡ other_in fold.old) }
         ensures cause { HasCause (D.view (disk_of (other_in fold.old))).faults
             (D.view (disk_of (other_in fold.new))).faults (IsErrOf result LedgerNo.Disk) }
         ensures counts_once { CountsOnce (D.view (disk_of (other_in fold.old))).faults

@@ -1,10 +1,10 @@
 -- The journal of a pair into which the active one is folded, and what a fold writes there.
-use Rattle.std.specs.Prelude.{ℕ, ◌≡◌, ◌<◌, ◌≤◌, ◌+◌, ◌^◌, ◌⊎◌, Bool, List, [], ◌∷◌, length}
+use Rattle.std.specs.Prelude.{ℕ, ◌≡◌, ◌<◌, ◌≤◌, ◌+◌, ◌^◌, ◌⊎◌, Bool, if◌then◌else◌, List, [], ◌∷◌, length}
 use Rattle.qc_codec.specs.Bodies as body
 use Rattle.qc_codec.specs.Fields.{format_1}
 use Rattle.qc_config.specs.declared.tuple.Tuple.{Tuple}
 use Rattle.qc_disk.specs.declared.disk.Disk.{Ghosts}
-use Rattle.qc_journal.specs.Journal.{limit_of, IsUp}
+use Rattle.qc_journal.specs.Journal.{disk_of, limit_of, IsUp}
 use Rattle.qc_journal.specs.declared.journal.Journal.{Journal}
 use Rattle.qc_pair.specs.Folding.{IsFullFold}
 use Rattle.qc_pair.specs.declared.fold.Fold.{Fold}
@@ -21,6 +21,13 @@ module _ {D : Type 0} {g : Ghosts D} (fold : Fold D g) where
   -- whether the spare is active
   abbrev pub swapped_in : Bool
   swapped_in = fold.is_swapped
+
+  -- the disk itself and its spare, of which one is active
+  abbrev pub own_disk : D → D
+  own_disk active = if swapped_in then disk_of other_in else active
+
+  abbrev pub spare_disk : D → D
+  spare_disk active = if swapped_in then active else disk_of other_in
 
   -- the body that says how the disk was made
   abbrev pub made_in : List ℕ

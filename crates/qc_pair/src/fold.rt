@@ -60,7 +60,7 @@ pub struct Fold<D: Disk> {
 }
 
 impl<D: Disk> Fold<D> {
-    ghost use Rattle.qc_pair.specs.Fold.{active_number, copies_in, folded_base, folded_bodies, made_in, other_in, swapped_in, IsFullFor, IsSameFold};
+    ghost use Rattle.qc_pair.specs.Fold.{active_number, copies_in, folded_base, folded_bodies, made_in, other_in, own_disk, spare_disk, swapped_in, IsFullFor, IsSameFold};
 
     /// The number of the next fold, none where the last has the number 2^63.
     pub fn next(&self) -> Option<u64>
@@ -133,8 +133,8 @@ impl<D: Disk> Fold<D> {
 
     /// The disk, and then the spare, of which this one is active.
     pub fn into_disks(self, active: D) -> (D, D)
-        ensures own { result.0 ≡ (if swapped_in self then disk_of (other_in self) else active) }
-        ensures spare { result.1 ≡ (if swapped_in self then active else disk_of (other_in self)) }
+        ensures own { result.0 ≡ own_disk self active }
+        ensures spare { result.1 ≡ spare_disk self active }
     {
         let other = self.other.into_disk();
         if self.is_swapped {

@@ -1,6 +1,6 @@
 -- What a copy leaves that looks before it rises, and what a fault of a fold is to a checkpoint.
 use Rattle.std.proofs.Common.{◌≡◌, ℕ, ◌+◌, List, refl, sym, ap, ◌∙◌, subst}
-use Rattle.std.specs.Prelude.{Bool, if◌then◌else◌, None, Err, IsErrOf}
+use Rattle.std.specs.Prelude.{Bool, not, if◌then◌else◌, None, Err, IsErrOf}
 use Rattle.qc_config.specs.declared.tuple.Tuple.{Tuple}
 use Rattle.qc_disk.specs.declared.disk.Disk.{Ghosts}
 use Rattle.qc_event.specs.Base.{Setting}
@@ -10,6 +10,7 @@ use Rattle.qc_journal.specs.declared.fault.Fault.TheVariants as fault
 use Rattle.qc_ledger.specs.Runs.{Falls}
 use Rattle.qc_pair.specs.Fold.{swapped_in, IsFullFor}
 use Rattle.qc_pair.specs.Folding.{IsFoldNo}
+use Rattle.qc_pair.specs.Pair.{number_at}
 use Rattle.qc_pair.specs.declared.fold.Fold.{Fold}
 use Rattle.qc_desk.specs.Entries.{IsOlder}
 use Rattle.qc_site.specs.Calls.{GrantMoments, SiteState, SiteWroteNone}
@@ -18,6 +19,7 @@ use Rattle.qc_site.specs.Log.{log_journal}
 use Rattle.qc_site.specs.declared.fault.SiteNo.{SiteNo}
 use Rattle.qc_site.specs.declared.fault.SiteNo.TheVariants.{Disk}
 use Rattle.qc_site.specs.declared.log.GrantLog.{GrantLog}
+use Rattle.qc_site.proofs.PairMounts.{other_number}
 use Rattle.qc_site.proofs.Since.{grants_on}
 
 -- WHAT IS WRITTEN
@@ -44,7 +46,7 @@ module _ {D : Type 0} {g : Ghosts D} (copy : ℕ) (fold : Fold D g) (tuples : Li
       by : (f : Fault) → IsFoldNo f → ((place : ℕ) → f ≡ fault.Full place → IsFullFor fold tuples place) → IsFoldRefusal copy fold tuples (fold_no disk f)
       by fault.Disk may full = tt
       by (fault.Broken place) may full = absurd may
-      by (fault.Full place) may full = (at ∙ ap (λ (b : Bool). if b then copy + 1 else copy + 1 + 17) same, full place refl)
+      by (fault.Full place) may full = (at ∙ other_number (swapped_in new) (copy + 1) ∙ ap (λ (b : Bool). number_at (not b) (copy + 1)) same, full place refl)
       by fault.Memory may full = refl
 
 -- a disk's fault is told where the disk failed, and nowhere else

@@ -4,8 +4,7 @@ use Rattle.qc_disk.specs.declared.disk.Disk.{Ghosts}
 use Rattle.qc_event.specs.declared.table.Table.{Table}
 use Rattle.qc_codec.specs.declared.past.Past.{Past}
 use Rattle.qc_journal.specs.Journal.{Keeps, disk_of}
-use Rattle.qc_ledger.specs.Pairs.{own_disk, spare_disk}
-use Rattle.qc_pair.specs.Fold.{swapped_in}
+use Rattle.qc_pair.specs.Fold.{own_disk, spare_disk, swapped_in}
 use Rattle.qc_pair.specs.Opening.{active_told, IsMountNo, OpensFold}
 use Rattle.qc_pair.specs.Pair.{number_at}
 use Rattle.qc_pair.specs.declared.fault.PairNo.{PairNo}

@@ -1,5 +1,5 @@
 //! How a copy's journal is folded into the other one of its pair.
-ghost use Rattle.std.specs.Prelude.{◌≡◌, ◌↔◌, ℕ, List, [], true, IfOk, IfErr, OnOk, IsErrOf, Err, None, is_some, length, slice_index_or};
+ghost use Rattle.std.specs.Prelude.{◌≡◌, ◌↔◌, ◌≤◌, ◌^◌, ℕ, List, [], true, IfOk, IfErr, OnOk, IsErrOf, Err, None, is_some, length, slice_index_or};
 ghost use Rattle.qc_disk.specs.Disk.{LeavesOnly};
 ghost use Rattle.qc_event.specs.Base.{IsProper};
 ghost use Rattle.qc_event.specs.History.{grants};
@@ -9,9 +9,9 @@ ghost use Rattle.qc_desk.specs.Entries.{IsOlder};
 ghost use Rattle.qc_journal.specs.Journal.{disk_of, IsUp, Keeps};
 ghost use Rattle.qc_ledger.specs.Entered.{SeesMore};
 ghost use Rattle.qc_ledger.specs.Runs.{Costs, CostsOnce};
-ghost use Rattle.qc_pair.specs.Fold.{copies_in, folded_base, folded_bodies, made_in, other_in, IsFullFor, IsSameFold};
+ghost use Rattle.qc_pair.specs.Fold.{active_number, copies_in, folded_base, folded_bodies, made_in, other_in, IsFullFor, IsSameFold};
 ghost use Rattle.qc_pair.specs.Folding.{IsFolding};
-ghost use Rattle.qc_site.specs.Checkpoint.{fold_no, held_by, CheckpointSays, CostsEither, IsFoldRefusal};
+ghost use Rattle.qc_site.specs.Checkpoint.{fold_no, held_by, CheckpointSays, CostsEither, IsFoldRefusal, IsSpared};
 ghost use Rattle.qc_site.specs.Log.{log_journal};
 
 use crate::fault::SiteNo;
@@ -93,6 +93,8 @@ impl<D: Disk, N: Store, const C: u8> Site<D, N, C> {
             (IsFolding bodies (made_in fold.old) (folded_base fold.old held.items)) }
         ensures refused { IfErr result (IsFoldRefusal C fold.old held.items) }
         ensures room { OnOk result ((place : ℕ) → IsFullFor fold.old held.items place → ⊥) }
+        ensures last { 2 ^ 63 ≤ active_number fold.old
+            → other_in fold.new ≡ other_in fold.old }
         ensures cause { Costs (other_in fold.old) (other_in fold.new)
             (IsErrOf result SiteNo.Disk) }
         ensures counts_once { CostsOnce (other_in fold.old) (other_in fold.new)
@@ -156,6 +158,11 @@ impl<D: Disk, N: Store, const C: u8> Site<D, N, C> {
             (held_by (slice_index_or N.base C []) C self.new.replica) (site_state self.new)) }
         ensures room { OnOk result ((place : ℕ) → IsFullFor fold.old
             (held_by (slice_index_or N.base C []) C self.new.replica) place → ⊥) }
+
+        // The other journal is as it was where the copy is strange, the history takes no more entries, the count of faults
+        // of the copy's own disk rose, or the last number was used up.
+        ensures spared { IsSpared fold.old (log_journal self.old.log)
+            (log_journal self.new.log) result → other_in fold.new ≡ other_in fold.old }
 
         // A fault of a disk is told exactly where the count of one of both rose.
         ensures cause { CostsEither (log_journal self.old.log) (log_journal self.new.log)
