@@ -8,7 +8,7 @@ ghost use Rattle.qc_interp.specs.FollowsScript.{BeginsScript, FollowsScript};
 ghost use Rattle.qc_script.specs.Reading.{IsProper};
 ghost use Rattle.qc_script.specs.Steps.{plan_of_script};
 ghost use Rattle.qc_system.specs.Closing.{AllKeep};
-ghost use Rattle.qc_system.specs.Parts.{IsOpening};
+ghost use Rattle.qc_system.specs.Parts.{AreBeside, IsOpening};
 
 use crate::stage::run_over;
 use qc_board::Board;
@@ -17,7 +17,7 @@ use qc_disk::Disk;
 use qc_event::{Base, Short};
 use qc_interp::{Gate, Mode};
 use qc_script::Script;
-use qc_system::{Mounting, System};
+use qc_system::{Mounting, Others, System};
 use qc_trail::Trail;
 use std::alloc::{AllocError, Global};
 use std::marker::Brand;
@@ -30,7 +30,7 @@ const SESSIONS: u8 = 16;
 const EACH: u16 = 0xffff;
 
 /// What is left of a store once its sessions have run: whether all came to their end, the tuples from which the copies
-/// started, the history, the oldest entry first, and the disks, the ledger's first.
+/// started, the history, the oldest entry first, and the disks, the ledger's first, and behind them their spares.
 #[derive(Drop)]
 pub struct Ended<D> {
     pub ran: Result<(), Short>,
@@ -43,21 +43,17 @@ pub struct Ended<D> {
 fn none_ran<R: Wait, D: Disk + Drop, N: Mounting>(
     rt: &R,
     system: System<D, N>,
+    others: Others<D>,
     first: Pass<N>,
 ) -> Ended<D>
     requires first { IsOpening first 17 }
+    requires others { AreBeside (length N.base) N.found others }
     ensures ran { result.ran ≡ Err Memory }
     ensures start { result.start ≡ N.base }
     ensures nothing { result.trail ≡ [] }
-    ensures disks { AllKeep (setting_of N.table N.base) (record {
-      base = N.base;
-      told = N.told;
-      before = N.before;
-      first = N.first;
-      limit = N.limit;
-    }) D.view result.disks.items [] }
+    ensures disks { AllKeep (setting_of N.table N.base) N.found D.view result.disks.items [] }
 {
-    let (start, trail, disks) = system.finish(rt, first);
+    let (start, trail, disks) = system.finish(rt, first, others);
     Ended {
         ran: Err(Short::Memory),
         start,
@@ -66,9 +62,9 @@ fn none_ran<R: Wait, D: Disk + Drop, N: Mounting>(
     }
 }
 
-/// Runs the sessions of a script over a system that was just opened, in threads or in order, and takes that apart. Each
-/// passes the gate before its first top. Where memory or room is wanting, a session stops, and what it made before stands;
-/// the others go on. Where memory is wanting for the board, none begins.
+/// Runs the sessions of a script over a system that was just opened, in threads or in order, and takes that apart, with what
+/// stands beside it. Each passes the gate before its first top. Where memory or room is wanting, a session stops, and what
+/// it made before stands; the others go on. Where memory is wanting for the board, none begins.
 pub fn run_sessions<
     R: Threads + Wait + Sync,
     D: Disk + Drop + Send,
@@ -78,12 +74,14 @@ pub fn run_sessions<
     rt: &R,
     alloc: Global,
     system: System<D, N>,
+    others: Others<D>,
     first: Pass<N>,
     script: &Script,
     gate: &G,
     mode: Mode,
 ) -> Ended<D>
     requires first { IsOpening first 17 }
+    requires others { AreBeside (length N.base) N.found others }
     requires proper { IsProper (plan_of_script script.now) }
     requires table { script.now.table ≡ N.table }
     requires copies { length N.base ≡ script.now.table.copies }
@@ -99,22 +97,17 @@ pub fn run_sessions<
     ensures room { IsErrOf result.ran Room → length result.trail ≡ limit }
 
     // Each disk keeps what was found on it, and then what the history tells.
-    ensures disks { AllKeep (setting_of N.table N.base) (record {
-      base = N.base;
-      told = N.told;
-      before = N.before;
-      first = N.first;
-      limit = N.limit;
-    }) D.view result.disks.items (reverse result.trail) }
+    ensures disks { AllKeep (setting_of N.table N.base) N.found D.view result.disks.items
+        (reverse result.trail) }
 {
     let (board, seat) = match Board::new(alloc, SESSIONS, EACH) {
         Ok(made) => made,
-        Err(AllocError) => return none_ran(rt, system, first),
+        Err(AllocError) => return none_ran(rt, system, others, first),
     };
     let (ran, first) = run_over::<R, D, N, G, Brand>(
         rt, alloc, &system, &board, script, gate, mode, first, seat,
     );
-    let (start, trail, disks) = system.finish(rt, first);
+    let (start, trail, disks) = system.finish(rt, first, others);
     Ended {
         ran,
         start,

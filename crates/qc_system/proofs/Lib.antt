@@ -4,6 +4,8 @@ pub mod Joining
 pub mod Left
 pub mod Listed
 pub mod Opening
+pub mod OtherDisks
+pub mod Pairings
 pub mod Paying
 pub mod Room
 pub mod Standing

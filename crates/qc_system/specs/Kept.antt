@@ -1,7 +1,6 @@
 -- What the disks of a system keep since they were mounted.
 use Rattle.std.specs.Prelude.{◌≡◌, ◌≤◌, ◌+◌, ◌-◌, ◌^◌, ◌∷◌, ◌++◌, [], ℕ, Bool, true, false, IsTrue, List, None, length, map, min}
 use Rattle.std.specs.List.{count_by}
-use Rattle.qc_disk.specs.Disk.{DiskView as Disk}
 use Rattle.qc_disk.specs.declared.disk.Disk.{Ghosts}
 use Rattle.qc_event.specs.declared.event.Entry.{Entry}
 use Rattle.qc_event.specs.declared.event.Event.{Event}
@@ -33,18 +32,19 @@ use Rattle.qc_site.specs.Since.{AreGrantsBy}
 use Rattle.qc_site.specs.Sites.{KeepsGranted}
 use Rattle.qc_site.specs.declared.log.GrantLog.{GrantLog}
 use Rattle.qc_system.specs.Grown.{GrownFrom}
+use Rattle.qc_system.specs.Parts.{Found}
 
 -- where a copy's disk tells its bytes, it keeps what was found there, and what the copy granted since; and it did at each moment
 -- since it was this disk
-abbrev pub KeepsSince : {D : Type 0} {g : Ghosts D} → Setting → ℕ → Bool → List (List ℕ) → Disk → GrantLog D g → Standing → Type 0
-KeepsSince {D} {g} setting copy told before first log standing = told ≡ true
-    → KeepsGranted copy before log standing × GrownFrom first before (AreGrantsBy setting copy standing.pass.seen) (g.view (disk_of (log_journal log)))
+abbrev pub KeepsSince : {D : Type 0} {g : Ghosts D} → Setting → ℕ → Found → GrantLog D g → Standing → Type 0
+KeepsSince {D} {g} setting copy found log standing = found.told ≡ true
+    → KeepsGranted copy found.before log standing × GrownFrom found.first found.before (AreGrantsBy setting copy standing.pass.seen) (g.view (disk_of (log_journal log)))
 
 -- where the ledger's disk tells its bytes, it keeps what was found there, and the tops that were committed since, with the
 -- names that are listed of each; and it did at each moment since it was this disk
-abbrev pub TopsSince : {D : Type 0} {g : Ghosts D} → Bool → List (List ℕ) → Disk → Shelf D g → View → Type 0
-TopsSince {D} {g} told before first shelf pass = told ≡ true
-    → KeepsLogged (listed pass.seen) before shelf (tops_of pass.mine) × GrownFrom first before (AreTopsBy (listed pass.seen) pass.seen) (g.view (disk_of (journal_of_shelf shelf)))
+abbrev pub TopsSince : {D : Type 0} {g : Ghosts D} → Found → Shelf D g → View → Type 0
+TopsSince {D} {g} found shelf pass = found.told ≡ true
+    → KeepsLogged (listed pass.seen) found.before shelf (tops_of pass.mine) × GrownFrom found.first found.before (AreTopsBy (listed pass.seen) pass.seen) (g.view (disk_of (journal_of_shelf shelf)))
 
 -- what a ledger's refusal of a top rests on: that it was unable to log it, for this reason
 abbrev pub HasRefused : Past → Name → LedgerNo → Type 0
@@ -78,8 +78,8 @@ HadNoRoom told before most [] = Unit {0}
 HadNoRoom told before most (e ∷ earlier) = HadNoRoomFor told before most earlier e.event × HadNoRoom told before most earlier
 
 -- where the ledger's disk tells its bytes, so it was by the names that are listed
-abbrev pub NoRoomForTops : Bool → List (List ℕ) → ℕ → View → Type 0
-NoRoomForTops told before most pass = told ≡ true → HadNoRoom (listed pass.seen) before most pass.mine
+abbrev pub NoRoomForTops : Found → ℕ → View → Type 0
+NoRoomForTops found most pass = found.told ≡ true → HadNoRoom (listed pass.seen) found.before most pass.mine
 
 -- At a time when it had granted what its entries up to now tell, a copy might have made a grant of this access, which was not dead,
 -- and the grant's record, behind those from before and one for each of its grants, would pass a limit.
@@ -108,5 +108,5 @@ abbrev pub NoneStrange : Past → Type 0
 NoneStrange own = (access : Name) → IsTrue (was_unable own access why.Strange) → ⊥
 
 -- where a copy's disk tells its bytes, so it is of the copy's requests
-abbrev pub NoRoomSince : Setting → ℕ → Bool → List (List ℕ) → ℕ → Standing → Type 0
-NoRoomSince setting copy told before most standing = told ≡ true → CopyHadNoRoom setting copy before most standing.pass.seen standing.pass.mine
+abbrev pub NoRoomSince : Setting → ℕ → Found → ℕ → Standing → Type 0
+NoRoomSince setting copy found most standing = found.told ≡ true → CopyHadNoRoom setting copy found.before most standing.pass.seen standing.pass.mine

@@ -2,4 +2,5 @@ pub mod Closing
 pub mod Grown
 pub mod Kept
 pub mod Left
+pub mod Pairs
 pub mod Parts

@@ -15,55 +15,50 @@ ghost use Rattle.qc_site.specs.Answers.{HasAnswered};
 ghost use Rattle.qc_site.specs.Calls.{CanServe};
 ghost use Rattle.qc_site.specs.Log.{log_journal};
 ghost use Rattle.qc_site.specs.Sites.{LeavesUp};
-ghost use Rattle.qc_system.specs.Closing.{CopyKeeps};
+ghost use Rattle.qc_system.specs.Closing.{CopyKeeps, PairKeeps};
 ghost use Rattle.qc_system.specs.Kept.{KeepsSince, NoRoomSince, NoneStrange, Pays, downs};
-ghost use Rattle.qc_system.specs.Parts.{IsMounted};
+ghost use Rattle.qc_system.specs.Parts.{IsCopy, IsOther};
 
 use crate::boxed::Boxed;
 use crate::mounting::Mounting;
 use qc_desk::{Desk, Pass};
 use qc_disk::Disk;
 use qc_event::{Answered, Ask, Short};
+use qc_pair::Fold;
 use qc_site::{Mounted, Site};
 use std::sync::Wait;
 
-/// A copy's site in its lock. Its disk keeps what was found there at the mounting, and what the copy granted since; so it
-/// did at each moment since the mounting. It pays for each request that the copy was down for. Where it tells its bytes,
-/// the record of each request that had no room would have passed the limit, and the copy is not strange.
+/// A copy's site in its lock. Its active disk keeps what was found there at the mounting, and what the copy granted since;
+/// so it did at each moment since the mounting. It pays for each request that the copy was down for. Where it tells its
+/// bytes, the record of each request that had no room would have passed the limit, and the copy is not strange.
 #[derive(Drop)]
 pub(crate) struct Held<D: Disk + Drop, N: Mounting, const C: u8>
 where
     Boxed<D>: Disk,
 {
     pub(crate) site: Site<Boxed<D>, N, C>,
-    ghost keeps: { ∥ KeepsSince (setting_of N.table N.base) C (N.told (C + 1)) (N.before (C + 1))
-        (N.first (C + 1)) site.log site.replica ∥₁ },
-    ghost pays: { Pays (N.first (C + 1)).faults (downs site.replica.pass.mine)
+    ghost keeps: { ∥ KeepsSince (setting_of N.table N.base) C (N.found.active (C + 1))
+        site.log site.replica ∥₁ },
+    ghost pays: { Pays (N.found.active (C + 1)).first.faults (downs site.replica.pass.mine)
         (D.view (disk_of (log_journal site.log)).disk.value).faults },
-    ghost limit: { limit_of (log_journal site.log) ≡ N.limit },
-    ghost full: { ∥ NoRoomSince (setting_of N.table N.base) C (N.told (C + 1)) (N.before (C + 1))
-        N.limit site.replica ∥₁ },
-    ghost plain: { ∥ (N.told (C + 1) ≡ true
+    ghost limit: { limit_of (log_journal site.log) ≡ N.found.limit },
+    ghost full: { ∥ NoRoomSince (setting_of N.table N.base) C (N.found.active (C + 1))
+        N.found.limit site.replica ∥₁ },
+    ghost plain: { ∥ ((N.found.active (C + 1)).told ≡ true
         → (is_some site.strange ≡ false) × NoneStrange site.replica.pass.mine) ∥₁ },
 }
 
 impl<D: Disk + Drop, N: Mounting, const C: u8> Held<D, N, C> {
     /// The site of a copy that was mounted, which a pass with the copy's number enters that has entered nothing.
-    pub(crate) fn new(mounted: Mounted<Boxed<D>>, pass: Pass<N>) -> Self
+    pub(crate) fn new(copy: Mounted<Boxed<D>>, pass: Pass<N>) -> Self
         requires small { C < 16 }
         requires pass { (pass.live ≡ true) × (pass.number ≡ copy_seat C) }
         requires fresh { (pass.mine ≡ []) × (pass.out ≡ []) }
         requires none_joined { pass.kin ≡ [] }
-        requires mounted { IsMounted (record {
-          base = N.base;
-          told = N.told;
-          before = N.before;
-          first = N.first;
-          limit = N.limit;
-        }) C mounted }
+        requires mounted { IsCopy N.base N.found C copy }
     {
         Held {
-            site: mounted.enter(pass),
+            site: copy.enter(pass),
         }
     }
 
@@ -101,22 +96,20 @@ impl<D: Disk + Drop, N: Mounting, const C: u8> Held<D, N, C> {
         }
     }
 
-    /// The disk and the pass.
-    pub(crate) fn leave(self) -> (D, Pass<N>)
-        ensures pass { (result.1.live ≡ true) × (result.1.number ≡ copy_seat C)
-            × (result.1.out ≡ []) }
-        ensures kin { result.1.kin ≡ [] }
-        ensures legal { Legal (setting_of N.table N.base) result.1.seen }
-        ensures own { result.1.mine ≡ entries_of (copy_seat C) result.1.seen }
-        ensures kept { CopyKeeps (setting_of N.table N.base) (record {
-          base = N.base;
-          told = N.told;
-          before = N.before;
-          first = N.first;
-          limit = N.limit;
-        }) C (D.view result.0) result.1.seen }
+    /// The disk, its spare, and the pass. The other one of both disks is handed in.
+    pub(crate) fn leave(self, fold: Fold<Boxed<D>>) -> (D, D, Pass<N>)
+        requires other { IsOther N.found (C + 1) fold }
+        ensures pass { (result.2.live ≡ true) × (result.2.number ≡ copy_seat C)
+            × (result.2.out ≡ []) }
+        ensures kin { result.2.kin ≡ [] }
+        ensures legal { Legal (setting_of N.table N.base) result.2.seen }
+        ensures own { result.2.mine ≡ entries_of (copy_seat C) result.2.seen }
+        ensures kept { PairKeeps (setting_of N.table N.base) N.found (C + 1)
+            (CopyKeeps (setting_of N.table N.base) N.found C) (D.view result.0) (D.view result.1)
+            result.2.seen }
     {
-        let (disk, pass) = self.site.into_parts();
-        (disk.into_disk(), pass)
+        let (active, pass) = self.site.into_parts();
+        let (disk, spare) = fold.into_disks(active);
+        (disk.into_disk(), spare.into_disk(), pass)
     }
 }

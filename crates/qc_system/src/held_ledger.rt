@@ -15,9 +15,9 @@ ghost use Rattle.qc_ledger.specs.Shelf.{journal_in, top_body};
 ghost use Rattle.qc_ledger.specs.Since.{TopsGrow};
 ghost use Rattle.qc_desk.specs.Entries.{entries_of};
 ghost use Rattle.qc_desk.specs.Known.{IsKnown};
-ghost use Rattle.qc_system.specs.Closing.{LedgerKeeps};
+ghost use Rattle.qc_system.specs.Closing.{LedgerKeeps, PairKeeps};
 ghost use Rattle.qc_system.specs.Kept.{HadNoRoom, HasRefused, NoRoomForTops, Pays, TopsSince, downs};
-ghost use Rattle.qc_system.specs.Parts.{IsFound};
+ghost use Rattle.qc_system.specs.Parts.{IsFound, IsOther};
 
 use crate::boxed::Boxed;
 use crate::mounting::Mounting;
@@ -25,22 +25,23 @@ use qc_desk::{Desk, Pass};
 use qc_disk::Disk;
 use qc_event::Name;
 use qc_ledger::{Book, Ledger, LedgerNo};
+use qc_pair::Fold;
 use std::sync::Wait;
 
-/// The ledger in its lock. Its disk keeps what was found there at the mounting, and the tops that were committed since,
-/// each with the names that are listed of it; so it did at each moment since the mounting. It pays for each top that was
-/// not logged for a failure, and one that was not for want of room would not have fitted behind its journal then.
+/// The ledger in its lock. Its active disk keeps what was found there at the mounting, and the tops that were committed
+/// since, each with the names that are listed of it; so it did at each moment since the mounting. It pays for each top
+/// that was not logged for a failure, and one that was not for want of room would not have fitted behind its journal then.
 #[derive(Drop)]
 pub(crate) struct HeldLedger<D: Disk + Drop, N: Mounting>
 where
     Boxed<D>: Disk,
 {
     pub(crate) ledger: Ledger<Boxed<D>, N>,
-    ghost keeps: { ∥ TopsSince (N.told 0) (N.before 0) (N.first 0) ledger.shelf ledger.pass ∥₁ },
-    ghost pays: { Pays (N.first 0).faults (downs ledger.pass.mine)
+    ghost keeps: { ∥ TopsSince (N.found.active 0) ledger.shelf ledger.pass ∥₁ },
+    ghost pays: { Pays (N.found.active 0).first.faults (downs ledger.pass.mine)
         (D.view (disk_of (journal_in ledger.shelf)).disk.value).faults },
-    ghost limit: { limit_of (journal_in ledger.shelf) ≡ N.limit },
-    ghost full: { ∥ NoRoomForTops (N.told 0) (N.before 0) N.limit ledger.pass ∥₁ },
+    ghost limit: { limit_of (journal_in ledger.shelf) ≡ N.found.limit },
+    ghost full: { ∥ NoRoomForTops (N.found.active 0) N.found.limit ledger.pass ∥₁ },
 }
 
 // Logs a ready top, with the names that are listed of it, and shows the seer what was entered.
@@ -100,9 +101,8 @@ impl<D: Disk + Drop, N: Mounting> HeldLedger<D, N> {
     pub(crate) fn new(book: Book<Boxed<D>>, pass: Pass<N>) -> Self
         requires ledger { (pass.live ≡ true) × (pass.number ≡ ledger_seat) × (pass.out ≡ []) }
         requires fresh { (pass.mine ≡ []) × (pass.kin ≡ []) }
-        requires found { IsFound (N.told 0) (N.before 0) (N.first 0) (records_of book)
-            (journal_of book) }
-        requires limit { limit_of (journal_of book) ≡ N.limit }
+        requires found { IsFound (N.found.active 0) (records_of book) (journal_of book) }
+        requires limit { limit_of (journal_of book) ≡ N.found.limit }
     {
         HeldLedger {
             ledger: book.enter(pass),
@@ -130,23 +130,20 @@ impl<D: Disk + Drop, N: Mounting> HeldLedger<D, N> {
         log_listed(&mut self.ledger, rt, desk, seer, top, aborted)
     }
 
-    /// The disk and the pass.
-    pub(crate) fn leave(self) -> (D, Pass<N>)
-        ensures pass { (result.1.live ≡ true) × (result.1.number ≡ ledger_seat)
-            × (result.1.out ≡ []) }
-        ensures kin { result.1.kin ≡ [] }
-        ensures legal { Legal (setting_of N.table N.base) result.1.seen }
-        ensures own { result.1.mine ≡ entries_of ledger_seat result.1.seen }
-        ensures kept { LedgerKeeps (setting_of N.table N.base) (record {
-          base = N.base;
-          told = N.told;
-          before = N.before;
-          first = N.first;
-          limit = N.limit;
-        }) (D.view result.0)
-            result.1.seen }
+    /// The disk, its spare, and the pass. The other one of both disks is handed in.
+    pub(crate) fn leave(self, fold: Fold<Boxed<D>>) -> (D, D, Pass<N>)
+        requires other { IsOther N.found 0 fold }
+        ensures pass { (result.2.live ≡ true) × (result.2.number ≡ ledger_seat)
+            × (result.2.out ≡ []) }
+        ensures kin { result.2.kin ≡ [] }
+        ensures legal { Legal (setting_of N.table N.base) result.2.seen }
+        ensures own { result.2.mine ≡ entries_of ledger_seat result.2.seen }
+        ensures kept { PairKeeps (setting_of N.table N.base) N.found 0
+            (LedgerKeeps (setting_of N.table N.base) N.found) (D.view result.0) (D.view result.1)
+            result.2.seen }
     {
-        let (disk, pass) = self.ledger.into_parts();
-        (disk.into_disk(), pass)
+        let (active, pass) = self.ledger.into_parts();
+        let (disk, spare) = fold.into_disks(active);
+        (disk.into_disk(), spare.into_disk(), pass)
     }
 }

@@ -7,10 +7,14 @@ mod held;
 mod held_ledger;
 mod mounting;
 mod open;
+mod others;
 mod parts;
+mod returns;
 mod system;
 
 pub use boxed::Boxed;
 pub use mounting::Mounting;
-pub use parts::Parts;
+pub use others::Others;
+pub use parts::{CopyPair, LedgerPair, Parts};
+pub use returns::Returns;
 pub use system::System;

@@ -1,5 +1,5 @@
 //! A system: a desk, a ledger and the copies of a store.
-ghost use Rattle.std.specs.Prelude.{◌≡◌, ◌≤◌, ◌<◌, [], true, IfOk, IfErr, IsErrOf, IsTrue, OnOk, is_some, length, vec_capacity};
+ghost use Rattle.std.specs.Prelude.{◌≡◌, ◌≤◌, ◌<◌, [], true, IfOk, IfErr, IsErrOf, IsTrue, OnOk, is_some, length};
 ghost use Rattle.qc_codec.specs.Bodies as body;
 ghost use Rattle.qc_codec.specs.declared.record.LedgerRecord.TheVariants.{Top};
 ghost use Rattle.qc_event.specs.Base.{IsProper};
@@ -24,14 +24,6 @@ use qc_event::{Answered, Ask, Name, Short};
 use qc_ledger::LedgerNo;
 use std::sync::{Mutex, Wait};
 
-// The room to hand the disks back. A lock of its own makes the system shareable where a disk is not.
-#[derive(Drop)]
-pub(crate) struct Returns<D> {
-    pub(crate) disks: Vec<D>,
-    ghost empty: { disks.items ≡ [] },
-    ghost enough: { 17 ≤ vec_capacity disks },
-}
-
 /// A system: the desk, the ledger and the copies of a store. Threads share it; each site and the ledger stands in a lock
 /// of its own.
 #[derive(Drop)]
@@ -41,7 +33,6 @@ where
 {
     pub(crate) desk: Desk<N>,
     pub(crate) ledger: Mutex<HeldLedger<D, N>>,
-    pub(crate) returns: Mutex<Returns<D>>,
     pub(crate) copies: u8,
     pub(crate) s0: Option<Mutex<Held<D, N, 0>>>,
     pub(crate) s1: Option<Mutex<Held<D, N, 1>>>,

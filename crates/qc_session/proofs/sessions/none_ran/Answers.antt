@@ -8,7 +8,7 @@ use Rattle.qc_session.proofs.sessions.none_ran.Given.{Over}
 use Rattle.qc_session.proofs.sessions.none_ran.Goals as goal
 
 pub finish-start-requires : goal.finish-start-requires
-finish-start-requires g c = record { first = (c.requires.first.live, c.requires.first.number, c.requires.first.out) }
+finish-start-requires g c = record { first = (c.requires.first.live, c.requires.first.number, c.requires.first.out); others = c.requires.others }
 
 nothing : (g : Over) (c : goal.After-finish-start g) → reverse c.finish-start.result.1 ≡ []
 nothing g c = none_acted (setting_of g.N.Store.table g.N.Store.base) (reverse c.finish-start.result.1) c.args.first c.requires.first c.finish-start.ensures.legal c.finish-start.ensures.settled
@@ -18,4 +18,4 @@ returns-clause-nothing g c = sym (reverse-reverse c.finish-start.result.1) ∙ a
 
 pub returns-clause-disks : goal.returns-clause-disks
 returns-clause-disks g c =
-    subst (AllKeep (setting_of g.N.Store.table g.N.Store.base) (record { base = g.N.Store.base; told = g.N.Mounting.told; before = g.N.Mounting.before; first = g.N.Mounting.first; limit = g.N.Mounting.limit }) g.D.Disk.view c.finish-start.result.2.items) (nothing g c) c.finish-start.ensures.disks
+    subst (AllKeep (setting_of g.N.Store.table g.N.Store.base) g.N.Mounting.found g.D.Disk.view c.finish-start.result.2.items) (nothing g c) c.finish-start.ensures.disks

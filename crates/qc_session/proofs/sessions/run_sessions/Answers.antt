@@ -19,7 +19,7 @@ finish-start-requires g c =
     let plan = plan_of_script c.args.script.now in
     let ran : RanEach setting epoch plan.patience 0 plan.sessions c.args.first c.run_over-ran.result.0 c.run_over-ran.result.1 =
     c.run_over-ran.ensures in
-    record { first = first_closes Reach.cut_off setting epoch plan.patience plan.sessions c.args.first c.run_over-ran.result.1 c.requires.first ran.first ran.begins }
+    record { first = first_closes Reach.cut_off setting epoch plan.patience plan.sessions c.args.first c.run_over-ran.result.1 c.requires.first ran.first ran.begins; others = c.requires.others }
 
 pub returns-in-Err-clause-begins : goal.returns-in-Err-clause-begins
 returns-in-Err-clause-begins g c =

@@ -19,7 +19,7 @@ use Rattle.qc_system.proofs.held.Held.new.Goals as goal
 pub invariant_of-result : goal.invariant_of-result
 invariant_of-result g c =
     let found = c.requires.mounted.disk in
-    let first = g.N.Mounting.first (g.row.C + 1) in
+    let first = (g.N.Mounting.found.active (g.row.C + 1)).first in
     let none = ap (λ (v : View). downs v.mine) c.enter.ensures.pass ∙ ap downs c.requires.fresh.0 in
     let fresh = λ (access : Name) (w : Why). ap (λ (v : View). was_unable v.mine access w) c.enter.ensures.pass ∙ ap (λ p. was_unable p access w) c.requires.fresh.0 in
     record {
@@ -33,6 +33,6 @@ invariant_of-result g c =
       pays = subst (λ n. Pays first.faults n (faults_of c.enter.result.log.journal)) (sym none)
           (pays_first first.faults (faults_of c.enter.result.log.journal) (found.count ∙ sym (ap faults_of c.enter.ensures.journal)));
       limit = ap limit_of c.enter.ensures.journal ∙ c.requires.mounted.limit;
-      full = ∣ (λ told. subst (CopyHadNoRoom (setting_of g.N.Store.table g.N.Store.base) g.row.C (g.N.Mounting.before (g.row.C + 1)) g.N.Mounting.limit c.enter.result.replica.pass.seen) (sym (ap (λ (v : View). v.mine) c.enter.ensures.pass ∙ c.requires.fresh.0)) tt) ∣₁;
+      full = ∣ (λ told. subst (CopyHadNoRoom (setting_of g.N.Store.table g.N.Store.base) g.row.C (g.N.Mounting.found.active (g.row.C + 1)).before g.N.Mounting.found.limit c.enter.result.replica.pass.seen) (sym (ap (λ (v : View). v.mine) c.enter.ensures.pass ∙ c.requires.fresh.0)) tt) ∣₁;
       plain = ∣ (λ told. (c.enter.ensures.strange, λ access unable. true≢false (sym unable ∙ fresh access why.Strange))) ∣₁;
     }

@@ -31,29 +31,29 @@ use Rattle.qc_system.proofs.held.Held.serve.Goals as goal
 pub invariant_of-self : goal.invariant_of-self
 invariant_of-self g c = record {
   keeps = ∥∥₁_map c.args.self.now.keeps (λ k told.
-      let before = g.N.Mounting.before (g.row.C + 1) in
-      let first = g.N.Mounting.first (g.row.C + 1) in (
+      let before = (g.N.Mounting.found.active (g.row.C + 1)).before in
+      let first = (g.N.Mounting.found.active (g.row.C + 1)).first in (
         c.serve.ensures.became.kept before (k told).0,
         record {
           began = left_on first (disk_of (log_journal c.args.self.now.site.log)) (disk_of (log_journal c.serve.new.self.log)) (λ d. g.D.Disk.view d.disk.value) (c.serve.ensures.became.moments before (k told).0).1.earlier (k told).1.grown.later (k told).1.began;
           grown = c.serve.ensures.became.grown before first.moment (k told).0 (k told).1.grown;
         },
       ));
-  pays = serve_pays g.row.C c.args.ask.now c.args.self.now.site.replica c.serve.new.self.replica (g.N.Mounting.first (g.row.C + 1)).faults _ _ c.serve.result (served_enters g.row.C c.args.ask.now c.serve.new.seer (site_state c.args.self.now.site) (site_state c.serve.new.self) c.serve.result c.serve.ensures.served) c.serve.ensures.err c.serve.ensures.cause c.args.self.now.pays;
+  pays = serve_pays g.row.C c.args.ask.now c.args.self.now.site.replica c.serve.new.self.replica (g.N.Mounting.found.active (g.row.C + 1)).first.faults _ _ c.serve.result (served_enters g.row.C c.args.ask.now c.serve.new.seer (site_state c.args.self.now.site) (site_state c.serve.new.self) c.serve.result c.serve.ensures.served) c.serve.ensures.err c.serve.ensures.cause c.args.self.now.pays;
   limit = c.serve.ensures.became.limit ∙ c.args.self.now.limit;
   full = ∥∥₁_elim c.args.self.now.keeps (hlevel) (λ k. ∥∥₁_map c.args.self.now.full (λ had told.
-      serve_room (setting_of g.N.Store.table g.N.Store.base) g.row.C (g.N.Mounting.before (g.row.C + 1)) g.N.Mounting.limit c.args.ask.now c.args.self.now.site.replica c.serve.new.self.replica c.serve.result
+      serve_room (setting_of g.N.Store.table g.N.Store.base) g.row.C (g.N.Mounting.found.active (g.row.C + 1)).before g.N.Mounting.found.limit c.args.ask.now c.args.self.now.site.replica c.serve.new.self.replica c.serve.result
       (served_enters g.row.C c.args.ask.now c.serve.new.seer (site_state c.args.self.now.site) (site_state c.serve.new.self) c.serve.result c.serve.ensures.served) c.serve.ensures.err c.serve.ensures.became.seen
       (λ is own same.
       let served = ok_is (HasServed g.row.C c.args.ask.now c.serve.new.seer (site_state c.args.self.now.site) (site_state c.serve.new.self)) c.serve.result Full is c.serve.ensures.served in
       let known = on_ok (LeavesKnown (setting_of g.N.Store.table g.N.Store.base) g.row.C c.serve.new.self.replica.pass c.serve.new.seer) c.serve.result Full is c.serve.ensures.known in
       let all = sym (own_grants (setting_of g.N.Store.table g.N.Store.base) g.row.C c.serve.new.self.replica.pass.seen (subst (Legal (setting_of g.N.Store.table g.N.Store.base)) served.shown known.known.legal)) ∙ sym (ap (λ p. grants p g.row.C) known.own) ∙ same in
-      full_for (setting_of g.N.Store.table g.N.Store.base) g.row.C (g.N.Mounting.before (g.row.C + 1)) g.N.Mounting.limit c.args.ask.now c.serve.new.self.log c.serve.new.self.replica own all (c.serve.ensures.full is)
-      (c.serve.ensures.became.kept (g.N.Mounting.before (g.row.C + 1)) (k told).0) served.rests.none (up_by c.serve.new.self.log.journal.state (c.serve.new.self.journal served.rests.up))
+      full_for (setting_of g.N.Store.table g.N.Store.base) g.row.C (g.N.Mounting.found.active (g.row.C + 1)).before g.N.Mounting.found.limit c.args.ask.now c.serve.new.self.log c.serve.new.self.replica own all (c.serve.ensures.full is)
+      (c.serve.ensures.became.kept (g.N.Mounting.found.active (g.row.C + 1)).before (k told).0) served.rests.none (up_by c.serve.new.self.log.journal.state (c.serve.new.self.journal served.rests.up))
       (g.met.D.Disk.reads_as_image (disk_of (log_journal c.serve.new.self.log)).disk.value) c.serve.new.self.copies (c.serve.ensures.became.limit ∙ c.args.self.now.limit))
       (had told)));
   plain = ∥∥₁_elim c.args.self.now.keeps (hlevel) (λ k. ∥∥₁_map c.args.self.now.plain (λ was told.
-      let still = c.serve.ensures.became.plain (g.N.Mounting.before (g.row.C + 1)) (k told).0 ∙ (was told).0 in (
+      let still = c.serve.ensures.became.plain (g.N.Mounting.found.active (g.row.C + 1)).before (k told).0 ∙ (was told).0 in (
         still,
         serve_plain g.row.C c.args.ask.now c.args.self.now.site.replica c.serve.new.self.replica c.serve.result
             (served_enters g.row.C c.args.ask.now c.serve.new.seer (site_state c.args.self.now.site) (site_state c.serve.new.self) c.serve.result c.serve.ensures.served) c.serve.ensures.err
@@ -64,8 +64,8 @@ invariant_of-self g c = record {
 
 pub invariant_of-self-in-Err : goal.invariant_of-self-in-Err
 invariant_of-self-in-Err g c =
-    let before = g.N.Mounting.before (g.row.C + 1) in
-    let first = g.N.Mounting.first (g.row.C + 1) in
+    let before = (g.N.Mounting.found.active (g.row.C + 1)).before in
+    let first = (g.N.Mounting.found.active (g.row.C + 1)).first in
     let served = serve_pays g.row.C c.args.ask.now c.args.self.now.site.replica c.serve.new.self.replica first.faults _ _ c.serve.result (served_enters g.row.C c.args.ask.now c.serve.new.seer (site_state c.args.self.now.site) (site_state c.serve.new.self) c.serve.result c.serve.ensures.served) c.serve.ensures.err c.serve.ensures.cause c.args.self.now.pays in
     record {
       keeps = ∥∥₁_map c.args.self.now.keeps (λ k told. (
@@ -84,9 +84,9 @@ invariant_of-self-in-Err g c =
           let setting = setting_of g.N.Store.table g.N.Store.base in
           let tried = c.serve.new.self.replica.pass in
           let shown = c.show.new.self.replica.pass in
-          subst (λ p. CopyHadNoRoom setting g.row.C before g.N.Mounting.limit shown.seen p) (sym c.show.ensures.looks.mine)
-          (room_later setting g.row.C before g.N.Mounting.limit tried.seen shown.seen tried.mine c.show.ensures.looks.older
-          (serve_room setting g.row.C before g.N.Mounting.limit c.args.ask.now c.args.self.now.site.replica c.serve.new.self.replica c.serve.result
+          subst (λ p. CopyHadNoRoom setting g.row.C before g.N.Mounting.found.limit shown.seen p) (sym c.show.ensures.looks.mine)
+          (room_later setting g.row.C before g.N.Mounting.found.limit tried.seen shown.seen tried.mine c.show.ensures.looks.older
+          (serve_room setting g.row.C before g.N.Mounting.found.limit c.args.ask.now c.args.self.now.site.replica c.serve.new.self.replica c.serve.result
           (served_enters g.row.C c.args.ask.now c.serve.new.seer (site_state c.args.self.now.site) (site_state c.serve.new.self) c.serve.result c.serve.ensures.served) c.serve.ensures.err c.serve.ensures.became.seen
           (λ is own same. absurd (let never = sym c.in-Err.is ∙ is in cc)) (had told))));
       plain = ∥∥₁_elim c.args.self.now.keeps (hlevel) (λ k. ∥∥₁_map c.args.self.now.plain (λ was told. (

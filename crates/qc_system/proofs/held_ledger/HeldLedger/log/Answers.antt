@@ -10,8 +10,8 @@ use Rattle.qc_system.proofs.held_ledger.HeldLedger.log.Goals as goal
 
 pub invariant_of-self : goal.invariant_of-self
 invariant_of-self g c =
-    let before = g.N.Mounting.before 0 in
-    let first = g.N.Mounting.first 0 in
+    let before = (g.N.Mounting.found.active 0).before in
+    let first = (g.N.Mounting.found.active 0).first in
     let old = c.args.self.now.ledger in
     record {
       keeps = ∥∥₁_map c.args.self.now.keeps (λ k told. (

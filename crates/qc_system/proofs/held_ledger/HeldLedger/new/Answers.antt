@@ -16,7 +16,7 @@ invariant_of-result g c =
     let found = c.requires.found in
     let ledger = c.enter.result in
     let told = listed ledger.pass.seen in
-    let first = g.N.Mounting.first 0 in
+    let first = (g.N.Mounting.found.active 0).first in
     let none = ap (λ (v : View). downs v.mine) c.enter.ensures.pass ∙ ap downs c.requires.fresh.0 in
     record {
       keeps = ∣ (λ tells. (
@@ -28,5 +28,5 @@ invariant_of-result g c =
       )) ∣₁;
       pays = subst (λ n. Pays first.faults n (faults_of ledger.shelf.journal)) (sym none) (pays_first first.faults (faults_of ledger.shelf.journal) (found.count ∙ sym (ap faults_of c.enter.ensures.journal)));
       limit = ap limit_of c.enter.ensures.journal ∙ c.requires.limit;
-      full = ∣ (λ tells. subst (HadNoRoom told (g.N.Mounting.before 0) g.N.Mounting.limit) (sym (ap (λ (v : View). v.mine) c.enter.ensures.pass ∙ c.requires.fresh.0)) tt) ∣₁;
+      full = ∣ (λ tells. subst (HadNoRoom told (g.N.Mounting.found.active 0).before g.N.Mounting.found.limit) (sym (ap (λ (v : View). v.mine) c.enter.ensures.pass ∙ c.requires.fresh.0)) tt) ∣₁;
     }
