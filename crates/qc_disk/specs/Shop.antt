@@ -1,6 +1,5 @@
 -- What a shop that gives disks says of the disk that it gives.
 use Rattle.std.specs.Prelude.{◌≡◌, ℕ, List, [], ◌∷◌, Option, Some, None, Result, Ok, Err, map}
-use Rattle.std.specs.List.{range_with_len}
 
 -- A shop at a moment.
 pub record ShopView : Type 0 where
@@ -28,6 +27,6 @@ abbrev pub if_given : {D E : Type 0} → Result D E → List ℕ → ℕ → Lis
 if_given (Ok disk) place which = (place, which) ∷ []
 if_given (Err e) place which = []
 
--- so many disks of a place, from 0 on
-abbrev pub first_disks : List ℕ → ℕ → List (List ℕ × ℕ)
-first_disks place many = map (λ which. (place, which)) (range_with_len 0 many)
+-- the disks of a place that have these numbers
+abbrev pub disks_of_place : List ℕ → List ℕ → List (List ℕ × ℕ)
+disks_of_place place numbers = map (λ which. (place, which)) numbers

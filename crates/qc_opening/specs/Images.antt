@@ -1,47 +1,71 @@
 -- The first fault of the images of a store's disks.
-use Rattle.std.specs.Prelude.{ℕ, ◌≡◌, ◌+◌, ◌⊎◌, List, [], ◌∷◌, Option, Some}
+use Rattle.std.specs.Prelude.{ℕ, ◌≡◌, ◌+◌, ◌⊎◌, Bool, List, [], ◌∷◌, length, map, Option, Some}
+use Rattle.std.specs.List.{range_with_len}
 use Rattle.qc_event.specs.declared.table.Table.{Table}
 use Rattle.qc_codec.specs.Ledger.{past_in}
 use Rattle.qc_codec.specs.declared.image.BadImage.{BadImage}
 use Rattle.qc_codec.specs.declared.past.Past.{Past}
-use Rattle.qc_journal.specs.Image.{HasRecords}
-use Rattle.qc_ledger.specs.Image as ledger
-use Rattle.qc_site.specs.Image as site
+use Rattle.qc_ledger.specs.Image.{AreMountableAsLedger}
+use Rattle.qc_ledger.specs.Pairs.{IsLedgerPairNo}
+use Rattle.qc_opening.specs.Disks.{all_places, by_place}
 use Rattle.qc_opening.specs.Numbered.{EachFrom}
+use Rattle.qc_pair.specs.Opening.{HaveActive}
+use Rattle.qc_pair.specs.Pair.{number_at}
+use Rattle.qc_pair.specs.declared.fault.PairNo.TheVariants.{Image}
+use Rattle.qc_pair.specs.declared.kind.Kind.{Kind}
+use Rattle.qc_pair.specs.declared.kind.Kind.TheVariants as kind
+use Rattle.qc_refine.specs.Pairs.{image_of, spare_image}
+use Rattle.qc_site.specs.Image.{AreMountableAsCopy}
+use Rattle.qc_site.specs.Pairs.{IsCopyPairNo}
 
--- a shop offers these images at the numbers from 0 on
-abbrev pub Offers : (ℕ → Option (List ℕ)) → List (List ℕ) → Type 0
-Offers offers images = EachFrom (λ n image. offers n ≡ Some image) 0 images
+-- A shop that offers this by the disks' numbers offers these images, one for each place of a store.
+pub record Offers (table : Table) (offers : ℕ → Option (List ℕ)) (images : List (List ℕ)) : Type 0 where
+  pub each : EachFrom (λ place image. by_place table.copies offers place ≡ Some image) 0 images
+  pub all : length images ≡ all_places table.copies
+
+-- Of the images of a pair, the disk's and the spare's, one is active, on the disk of some number, and its bodies are fine there.
+pub record IsSoundPair (kind : Kind) (pair : ℕ) (Fine : ℕ → List (List ℕ) → Type 0) (images : List ℕ × List ℕ) : Type 0 where
+  pub is_spare : Bool
+  pub found : List (List ℕ)
+  pub have : HaveActive kind pair (Some images.0) (Some images.1) is_spare found
+  pub fine : Fine (number_at is_spare pair) found
 
 module _ (table : Table) (limit : ℕ) where
-  -- the image of a copy's disk, behind a ledger's past, has no fault
-  pub record IsSoundCopy (past : Past) (copy : ℕ) (image : List ℕ) : Type 0 where
-    pub found : List (List ℕ)
-    pub has : HasRecords found image
-    pub fine : site.AreMountableAsCopy (copy + 1) table past limit found
+  -- the images of a copy's pair, behind a ledger's past, have no fault
+  abbrev pub IsSoundCopy : Past → ℕ → List ℕ × List ℕ → Type 0
+  IsSoundCopy past copy images = IsSoundPair kind.Copy (copy + 1) (λ disk found. AreMountableAsCopy disk table past limit found) images
 
-  -- the first fault of the images of copies from a number on, behind a ledger's past
-  abbrev pub IsCopiesFault : Past → BadImage → ℕ → List (List ℕ) → Type 0
+  -- the first fault of the images of copies' pairs from a copy on, behind a ledger's past
+  abbrev pub IsCopiesFault : Past → BadImage → ℕ → List (List ℕ × List ℕ) → Type 0
   IsCopiesFault past bad copy [] = ⊥
-  IsCopiesFault past bad copy (image ∷ images) =
-      ((bad.disk ≡ copy + 1) × ledger.IsFirstFault (site.IsCopyFault (copy + 1) table past limit) bad.fault image)
-      ⊎ (IsSoundCopy past copy image × IsCopiesFault past bad (copy + 1) images)
+  IsCopiesFault past bad copy (images ∷ more) =
+      IsCopyPairNo copy table past limit (Some images.0) (Some images.1) (Image bad)
+      ⊎ (IsSoundCopy past copy images × IsCopiesFault past bad (copy + 1) more)
 
-  -- The ledger's image has no fault, and tells a past behind which the images of copies have this.
-  pub record IsSoundLedger (image : List ℕ) (Behind : Past → Type 0) : Type 0 where
-    pub found : List (List ℕ)
-    pub has : HasRecords found image
-    pub fine : ledger.AreMountableAsLedger 0 table limit found
-    pub behind : Behind (past_in found)
+  -- the images of the ledger's pair have no fault, and tell a past behind which it is so
+  abbrev pub IsSoundLedger : (Past → Type 0) → List ℕ × List ℕ → Type 0
+  IsSoundLedger Behind images = IsSoundPair kind.Ledger 0 (λ disk found. AreMountableAsLedger disk table limit found × Behind (past_in found)) images
 
-  -- the first fault of a store's images, the ledger's first and then each copy's
-  abbrev pub IsFirstFault : BadImage → List (List ℕ) → Type 0
-  IsFirstFault bad [] = ⊥
-  IsFirstFault bad (image ∷ images) =
-      ((bad.disk ≡ 0) × ledger.IsFirstFault (ledger.IsLedgerFault 0 table limit) bad.fault image)
-      ⊎ IsSoundLedger image (λ past. IsCopiesFault past bad 0 images)
+  -- the first fault of the images of pairs, the ledger's first and then each copy's
+  abbrev pub IsFirstInPairs : BadImage → List (List ℕ × List ℕ) → Type 0
+  IsFirstInPairs bad [] = ⊥
+  IsFirstInPairs bad (images ∷ more) =
+      IsLedgerPairNo table limit (Some images.0) (Some images.1) (Image bad)
+      ⊎ IsSoundLedger (λ past. IsCopiesFault past bad 0 more) images
 
-  -- a store's images have no fault
-  abbrev pub AreSound : List (List ℕ) → Type 0
-  AreSound [] = ⊥
-  AreSound (image ∷ images) = IsSoundLedger image (λ past. EachFrom (IsSoundCopy past) 0 images)
+  -- the images of pairs have no fault
+  abbrev pub AreSoundInPairs : List (List ℕ × List ℕ) → Type 0
+  AreSoundInPairs [] = ⊥
+  AreSoundInPairs (images ∷ more) = IsSoundLedger (λ past. EachFrom (IsSoundCopy past) 0 more) images
+
+-- of each pair the image of the disk, beside that of the spare
+abbrev pub images_in_pairs : Table → List (List ℕ) → List (List ℕ × List ℕ)
+images_in_pairs table images = map (λ pair. (image_of table images pair, spare_image table images pair)) (range_with_len 0 (table.copies + 1))
+
+-- the first fault of a store's images, one for each place
+abbrev pub IsFirstFault : Table → ℕ → BadImage → List (List ℕ) → Type 0
+IsFirstFault table limit bad images = IsFirstInPairs table limit bad (images_in_pairs table images)
+
+-- a store's images have no fault
+abbrev pub AreSound : Table → ℕ → List (List ℕ) → Type 0
+AreSound table limit images = AreSoundInPairs table limit (images_in_pairs table images)

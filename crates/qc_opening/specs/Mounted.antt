@@ -1,5 +1,6 @@
 -- What the mounting of a store gives.
-use Rattle.std.specs.Prelude.{ℕ, ◌≡◌, ◌+◌, List, ◌∷◌, ◌++◌, length, Option, Result, Ok, Err, IsSome}
+use Rattle.std.specs.Prelude.{ℕ, ◌≡◌, ◌+◌, false, true, not, List, ◌∷◌, ◌++◌, length}
+use Rattle.qc_disk.specs.Disk.{DiskView}
 use Rattle.qc_disk.specs.declared.disk.Disk.{Ghosts}
 use Rattle.qc_codec.specs.Base.{base_in, copy_base, tuples_of_base}
 use Rattle.qc_codec.specs.Copy.{grant_form}
@@ -8,70 +9,68 @@ use Rattle.qc_codec.specs.Restored.{restored_row}
 use Rattle.qc_codec.specs.declared.past.Past.{Past}
 use Rattle.qc_event.specs.declared.table.Table.{Table}
 use Rattle.qc_desk.specs.Held.{from_row}
-use Rattle.qc_journal.specs.Journal.{disk_of, limit_of, IsUp, Keeps}
-use Rattle.qc_ledger.specs.Image as ledger
+use Rattle.qc_journal.specs.Journal.{disk_of, limit_of, IsUp}
+use Rattle.qc_ledger.specs.Image as tops
 use Rattle.qc_ledger.specs.Mounted as book
-use Rattle.qc_ledger.specs.declared.book.Book.{Book}
-use Rattle.qc_site.specs.Image as site
-use Rattle.qc_site.specs.Mounted as copy
-use Rattle.qc_site.specs.Start.{start_of}
-use Rattle.qc_site.specs.declared.mounted.Mounted.{Mounted}
-use Rattle.qc_opening.specs.Disks.{AreCounted, AreOffered, IsMounted}
+use Rattle.qc_ledger.specs.Pairs.{MountsLedgerPair}
+use Rattle.qc_opening.specs.Disks.{IsMounted}
 use Rattle.qc_opening.specs.Numbered.{PairsFrom}
-use Rattle.qc_opening.specs.Refusing.{disks_in}
 use Rattle.qc_opening.specs.declared.parts.Parts.{Parts}
-use Rattle.qc_opening.specs.declared.mount_no.MountNo.{MountNo}
+use Rattle.qc_pair.specs.Fold.{own_disk, spare_disk, swapped_in, IsFoldFor}
+use Rattle.qc_pair.specs.Pair.{number_at}
+use Rattle.qc_site.specs.Image as grants
+use Rattle.qc_site.specs.Mounted as copy
+use Rattle.qc_site.specs.Pairs.{MountsCopyPair}
+use Rattle.qc_site.specs.Start.{start_of}
+use Rattle.qc_system.specs.declared.parts.CopyPair.{CopyPair}
+use Rattle.qc_system.specs.declared.parts.LedgerPair.{LedgerPair}
 
--- the disk of a copy that was mounted
-abbrev pub copy_disk : {D : Type 0} {g : Ghosts D} → Mounted D g → D
-copy_disk mounted = disk_of (copy.journal_of mounted)
+-- Both disks of a pair were mounted, and neither failed.
+pub record AreMounted {D : Type 0} (view : D → DiskView) (table : Table) (pair : ℕ) (old new : D × D) : Type 0 where
+  pub own : IsMounted view table pair (view old.0).content (view old.1).content false ⊥ old.0 new.0
+  pub spare : IsMounted view table pair (view old.0).content (view old.1).content true ⊥ old.1 new.1
 
-module _ {D : Type 0} {g : Ghosts D} (table : Table) where
-  -- A ledger was mounted from a disk: what its records told before, and the epoch that it logged.
-  pub record IsLedger (limit : ℕ) (disk : D) (mounted : Book D g) (past : Past) (epoch : ℕ) : Type 0 where
-    pub mounts : book.MountsLedger 0 table limit (g.view disk).content (book.records_of mounted) past epoch
-    pub limit_is : limit_of (book.journal_of mounted) ≡ limit
-    pub keeps : IsSome (g.view disk).content → Keeps (book.journal_of mounted) (book.records_of mounted)
-    pub disk_is : IsMounted g.view (ledger.to_write 0 table) ⊥ disk (disk_of (book.journal_of mounted))
+module _ {D : Type 0} {g : Ghosts D} where
+  -- the disk of a pair that was mounted, and its spare
+  abbrev pub ledger_disks : LedgerPair D g → D × D
+  ledger_disks pair = (own_disk pair.fold (disk_of (book.journal_of pair.book)), spare_disk pair.fold (disk_of (book.journal_of pair.book)))
 
-  -- A copy was mounted from a disk, behind a past: it starts with what its records restore.
-  pub record IsCopy (past : Past) (limit number : ℕ) (disk : D) (mounted : Mounted D g) : Type 0 where
-    pub mounts : copy.MountsCopy (number + 1) table past limit (g.view disk).content (copy.records_of mounted)
-    pub number_is : copy.copy_of mounted ≡ number
-    pub copies : copy.copies_of mounted ≡ table.copies
-    pub limit_is : limit_of (copy.journal_of mounted) ≡ limit
-    pub up : IsUp (copy.journal_of mounted)
-    pub start : start_of mounted ≡ restored_row past.tops (length table.records) (from_row (tuples_of_base table (base_in copy_base (copy.records_of mounted)))) (readings (grant_form table) (copy.records_of mounted))
-    pub keeps : IsSome (g.view disk).content → Keeps (copy.journal_of mounted) (copy.records_of mounted)
-    pub disk_is : IsMounted g.view (site.to_write (number + 1) table) ⊥ disk (copy_disk mounted)
+  abbrev pub copy_disks : CopyPair D g → D × D
+  copy_disks pair = (own_disk pair.fold (disk_of (copy.journal_of pair.copy)), spare_disk pair.fold (disk_of (copy.journal_of pair.copy)))
 
-  -- copies were mounted from disks, one from each, in rising number from 0
-  abbrev pub AreCopies : Past → ℕ → List D → List (Mounted D g) → Type 0
-  AreCopies past limit disks mounted = PairsFrom (IsCopy past limit) 0 disks mounted
+  module _ (table : Table) where
+    -- A ledger was mounted from a pair of disks: what its records told before, and the epoch that it logged.
+    pub record IsLedger (limit : ℕ) (disks : D × D) (ledger : LedgerPair D g) (past : Past) (epoch : ℕ) : Type 0 where
+      pub mounts : MountsLedgerPair table limit (g.view disks.0).content (g.view disks.1).content ledger.book ledger.fold past epoch
+      pub limit_is : limit_of (book.journal_of ledger.book) ≡ limit
+      pub folds : IsFoldFor ledger.fold limit (tops.made_body (number_at (not (swapped_in ledger.fold)) 0) table) epoch table.copies
+      pub left : AreMounted g.view table 0 disks (ledger_disks ledger)
 
-  -- The first of all these disks were mounted as copies, in rising number from 0, and the others wait.
-  pub record AreTaken (past : Past) (limit : ℕ) (all waiting : List D) (mounted : List (Mounted D g)) : Type 0 where
-    pub taken : List D
-    pub all_are : all ≡ taken ++ waiting
-    pub copies_are : AreCopies past limit taken mounted
+    -- A copy was mounted from a pair of disks, behind a past and for an epoch: it starts with what its records restore.
+    pub record IsCopy (past : Past) (epoch limit number : ℕ) (disks : D × D) (pair : CopyPair D g) : Type 0 where
+      pub mounts : MountsCopyPair number table past limit (g.view disks.0).content (g.view disks.1).content pair.copy pair.fold
+      pub number_is : copy.copy_of pair.copy ≡ number
+      pub copies : copy.copies_of pair.copy ≡ table.copies
+      pub limit_is : limit_of (copy.journal_of pair.copy) ≡ limit
+      pub up : IsUp (copy.journal_of pair.copy)
+      pub start : start_of pair.copy ≡ restored_row past.tops (length table.records) (from_row (tuples_of_base table (base_in copy_base (copy.records_of pair.copy)))) (readings (grant_form table) (copy.records_of pair.copy))
+      pub folds : IsFoldFor pair.fold limit (grants.made_body (number_at (not (swapped_in pair.fold)) (number + 1)) table) epoch table.copies
+      pub left : AreMounted g.view table (number + 1) disks (copy_disks pair)
 
-  -- A ledger and copies were mounted from these disks, the copies behind what the ledger told.
-  pub record IsStoreOf (limit : ℕ) (disks : List D) (parts : Parts D g) : Type 0 where
-    pub ledger_disk : D
-    pub copy_disks : List D
-    pub disks_are : disks ≡ ledger_disk ∷ copy_disks
-    pub ledger_is : IsLedger limit ledger_disk parts.book parts.past parts.epoch
-    pub copies_are : AreCopies parts.past limit copy_disks parts.copies.items
+    -- copies were mounted from pairs of disks, one from each, in rising number from 0
+    abbrev pub AreCopies : Past → ℕ → ℕ → List (D × D) → List (CopyPair D g) → Type 0
+    AreCopies past epoch limit disks mounted = PairsFrom (IsCopy past epoch limit) 0 disks mounted
 
-  -- They were mounted from the disks that a shop gave, and are as many as the table has.
-  pub record IsStore (offers : ℕ → Option (List ℕ)) (counts : ℕ → ℕ) (limit : ℕ) (parts : Parts D g) : Type 0 where
-    pub disks : List D
-    pub offered : AreOffered g.view offers 0 disks
-    pub counted : AreCounted g.view counts 0 disks
-    pub mounted : IsStoreOf limit disks parts
-    pub all : length parts.copies.items ≡ table.copies
+    -- The first of all these pairs were mounted as copies, in rising number from 0, and the others wait.
+    pub record AreTaken (past : Past) (epoch limit : ℕ) (all waiting : List (D × D)) (mounted : List (CopyPair D g)) : Type 0 where
+      pub taken : List (D × D)
+      pub all_are : all ≡ taken ++ waiting
+      pub copies_are : AreCopies past epoch limit taken mounted
 
--- how many disks were given
-abbrev pub given_by : {D : Type 0} {g : Ghosts D} → Result (Parts D g) (MountNo D) → ℕ
-given_by (Ok parts) = length parts.copies.items + 1
-given_by (Err refused) = length (disks_in refused)
+    -- A ledger and copies were mounted from these pairs of disks, the copies behind what the ledger told.
+    pub record IsStoreOf (limit : ℕ) (pairs : List (D × D)) (parts : Parts D g) : Type 0 where
+      pub ledger_pair : D × D
+      pub copy_pairs : List (D × D)
+      pub pairs_are : pairs ≡ ledger_pair ∷ copy_pairs
+      pub ledger_is : IsLedger limit ledger_pair parts.ledger parts.past parts.epoch
+      pub copies_are : AreCopies parts.past parts.epoch limit copy_pairs parts.copies.items

@@ -4,8 +4,8 @@ ghost use Rattle.qc_event.specs.declared.table.Table.{Table};
 ghost use Rattle.qc_codec.specs.declared.image.BadImage.{BadImage};
 ghost use Rattle.qc_opening.specs.Images.{AreSound, IsFirstFault};
 
-/// The images of a store's disks have at most one first fault, and none where they are sound. What `mount` answers is
-/// then the one fault that there is.
+/// The images of a store's disks have at most one first fault, and none where they are sound. What `mount_disks` answers
+/// is then the one fault that there is.
 pub fn one_verdict()
     ensures one { (table : Table) (limit : ℕ) (images : List (List ℕ)) (bad other : BadImage)
         → IsFirstFault table limit bad images → IsFirstFault table limit other images

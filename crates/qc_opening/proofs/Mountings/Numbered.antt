@@ -1,5 +1,6 @@
 -- Lists whose items go by numbers in order.
-use Rattle.std.proofs.Common.{◌≡◌, ℕ, ◌+◌, ◌<◌, ◌≤◌, List, [], ◌∷◌, ◌++◌, length, map, subst, ap, refl, arith, suc}
+use Rattle.std.proofs.Common.{◌≡◌, ℕ, zero, suc, ◌+◌, ◌<◌, ◌≤◌, List, [], ◌∷◌, ◌++◌, length, map, subst, ap, refl, arith}
+use Rattle.std.specs.Prelude.{Some, slice_get}
 use Rattle.qc_opening.specs.Numbered.{EachFrom, PairsFrom}
 
 -- one item more
@@ -50,3 +51,14 @@ pairs_mapped R S f number (item ∷ items) (other ∷ others) pairs also = (
 pub pairs_same : {A : Type 0} (R : ℕ → A → A → Type 0) (number : ℕ) (items : List A) → ((n : ℕ) (item : A) → number ≤ n → n < number + length items → R n item item) → PairsFrom R number items items
 pairs_same R number [] each = tt
 pairs_same R number (item ∷ items) each = (each number item (omega arith) (omega arith), pairs_same R (number + 1) items (λ n x from low. each n x (omega (arith, from)) (omega (arith, low))))
+
+-- what follows of each pair, by the place where it stands
+pub pairs_placed : {A B C E : Type 0} (R : ℕ → A → B → Type 0) (S : ℕ → C → E → Type 0) (f : A → C) (h : B → E) (number start : ℕ) (items : List A) (others : List B) → PairsFrom R number items others
+    → ((place n m : ℕ) (item : A) (other : B) → n ≡ number + place → m ≡ start + place → slice_get items place ≡ Some item → R n item other → S m (f item) (h other)) → PairsFrom S start (map f items) (map h others)
+pairs_placed R S f h number start [] [] pairs also = tt
+pairs_placed R S f h number start [] (other ∷ others) pairs also = absurd pairs
+pairs_placed R S f h number start (item ∷ items) [] pairs also = absurd pairs
+pairs_placed R S f h number start (item ∷ items) (other ∷ others) pairs also = (
+  also zero number start item other (omega arith) (omega arith) refl pairs.0,
+  pairs_placed R S f h (number + 1) (start + 1) items others pairs.1 (λ place n m x y is at get has. also (suc place) n m x y (omega (arith, is)) (omega (arith, at)) get has),
+)

@@ -1,34 +1,35 @@
 -- A store that is mounted, or refused.
-use Rattle.std.proofs.Common.{◌≡◌, ℕ, ◌+◌, ◌<◌, ◌≤◌, List, [], ◌∷◌, length, subst, sym, ap, refl, arith, inl, inr, ◌∙◌, suc}
-use Rattle.std.specs.Prelude.{◌↔◌, Option, Some, IfSome, Result, Ok, Err, IfErr, IfOk, OnOk}
+use Rattle.std.proofs.Common.{◌≡◌, ℕ, ◌+◌, ◌≤◌, List, [], ◌∷◌, length, subst, sym, ap, refl, arith, inl, inr, suc}
+use Rattle.std.specs.Prelude.{◌↔◌, Some, Result, Ok, Err, IfErr, IfOk}
 use Rattle.std.specs.Result.{IsErrAnd}
 use Rattle.qc_names.specs.Padded.{head_of, tail_of}
+use Rattle.qc_codec.specs.Ledger.{past_in}
 use Rattle.qc_codec.specs.declared.image.BadImage.{BadImage}
-use Rattle.qc_codec.specs.declared.image.ImageFault.{ImageFault}
 use Rattle.qc_codec.specs.declared.past.Past.{Past}
-use Rattle.qc_disk.specs.Disk.{DiskView}
 use Rattle.qc_disk.specs.declared.disk.Disk.{Ghosts}
 use Rattle.qc_event.specs.declared.table.Table.{Table}
 use Rattle.qc_journal.specs.Image.{HasRecords}
-use Rattle.qc_journal.specs.Journal.{disk_of}
-use Rattle.qc_ledger.specs.Image as ledger
-use Rattle.qc_ledger.specs.Mounted as book
-use Rattle.qc_ledger.specs.declared.book.Book.{Book}
-use Rattle.qc_opening.specs.Disks.{AreCounted, AreOffered, IsLeft, IsMounted}
-use Rattle.qc_opening.specs.Images.{AreSound, IsCopiesFault, IsFirstFault, IsSoundCopy, IsSoundLedger}
-use Rattle.qc_opening.specs.Mounted.{given_by, IsCopy, IsLedger, IsStoreOf}
+use Rattle.qc_ledger.specs.Image.{AreMountableAsLedger, IsLedgerFault}
+use Rattle.qc_ledger.specs.Pairs.{IsLedgerPairNo}
+use Rattle.qc_opening.specs.Disks.{all_places, IsPairLeft}
+use Rattle.qc_opening.specs.Images.{images_in_pairs, AreSound, AreSoundInPairs, IsCopiesFault, IsFirstInPairs, IsSoundCopy, IsSoundLedger}
+use Rattle.qc_opening.specs.Mounted.{ledger_disks, IsCopy, IsLedger, IsStoreOf}
 use Rattle.qc_opening.specs.Numbered.{EachFrom}
-use Rattle.qc_opening.specs.Obtained.{IsNotGiven}
-use Rattle.qc_opening.specs.Refusing.{disks_in, reason_in, AreLeft, ComeBack, FailedAt, IsBehind, IsFaultOf, IsNotMounted, IsReasonAmong, IsReasonAt, TellImages}
+use Rattle.qc_opening.specs.Refusing.{ArePairsLeft, FailedAt, IsBehind, IsReasonAmong, TellImages, TellInPairs}
 use Rattle.qc_opening.specs.Waiting.{GoesBack, IsTaken}
 use Rattle.qc_opening.specs.declared.parts.Parts.{Parts}
-use Rattle.qc_opening.specs.declared.mount_no.MountNo.{MountNo}
-use Rattle.qc_opening.specs.declared.mount_no.MountNo.TheVariants as no
-use Rattle.qc_opening.specs.declared.mount_no.Reason.{Reason}
-use Rattle.qc_opening.specs.declared.mount_no.Reason.TheVariants.{Disk, Image, Memory}
+use Rattle.qc_opening.proofs.Mountings.Disks.{mounted_for, unreached_pairs}
 use Rattle.qc_opening.proofs.Mountings.InTurn.{sound_copies}
-use Rattle.qc_opening.proofs.Mountings.Disks.{among_at, among_more, mounted_for, not_behind_first, not_failed, not_first_failed, unreached}
 use Rattle.qc_opening.proofs.Mountings.Numbered.{pairs_length}
+use Rattle.qc_opening.proofs.Mountings.Reasons.{among_more, among_of, no_of_pair, not_behind_first, not_failed, not_first_failed, IsNoOfPair}
+use Rattle.qc_opening.proofs.Mountings.Row.{row_length, tell_in_pairs}
+use Rattle.qc_opening.proofs.Mountings.Sound.{sound_pair, told_fine}
+use Rattle.qc_pair.specs.Fold.{swapped_in}
+use Rattle.qc_pair.specs.declared.fault.PairNo.{PairNo}
+use Rattle.qc_pair.specs.declared.fault.PairNo.TheVariants.{Image}
+use Rattle.qc_pair.specs.declared.kind.Kind.TheVariants as kind
+use Rattle.qc_system.specs.Pairs.{own_then_spares}
+use Rattle.qc_system.specs.declared.parts.LedgerPair.{LedgerPair}
 
 -- what is answered with an error that was handed on
 pub by_err : {T E : Type 0} (r : Result T E) (e : E) (P : E → Type 0) → IsErrAnd r (λ x. x ≡ e) → P e → IfErr r P
@@ -40,147 +41,101 @@ pub if_ok : {T E : Type 0} (r : Result T E) (P Q : T → Type 0) → IfOk r P �
 if_ok (Ok x) P Q has also = also x has
 if_ok (Err e) P Q has also = tt
 
-pub on_ok : {T E : Type 0} (r : Result T E) (P : T → Type 0) (Q : Type 0) → IfOk r P → ((x : T) → P x → Q) → OnOk r Q
-on_ok (Ok x) P Q has also = also x has
-on_ok (Err e) P Q has also = tt
-
 pub if_err : {T E : Type 0} (r : Result T E) (P Q R : E → Type 0) → IfErr r P → IfErr r Q → ((e : E) → P e → Q e → R e) → IfErr r R
 if_err (Ok x) P Q R one two also = tt
 if_err (Err e) P Q R one two also = also e one two
 
+-- half as many pairs as disks
+pub pairs_many : {D : Type 0} (disks : List D) (pairs : List (D × D)) (copies : ℕ) → own_then_spares pairs ≡ disks → length disks ≡ all_places copies → length pairs ≡ copies + 1
+pairs_many disks pairs copies are size = omega (arith, row_length pairs, ap length are, size)
+
 module _ {D : Type 0} {g : Ghosts D} (table : Table) (limit : ℕ) where
   -- THE LEDGER
 
-  -- a ledger was mounted from an image without a fault, and what holds behind the past that it told
-  sound_ledger : (disk : D) (mounted : Book D g) (past : Past) (epoch : ℕ) (image : List ℕ) (Behind : Past → Type 0) → IsLedger table limit disk mounted past epoch → (g.view disk).content ≡ Some image
-      → Behind past → IsSoundLedger table limit image Behind
-  sound_ledger disk mounted past epoch image Behind is told behind =
-      let fine = subst (λ o. IfSome o (λ bytes. HasRecords is.mounts.found bytes × ledger.AreMountableAsLedger 0 table limit is.mounts.found)) told is.mounts.fine in
-      record { found = is.mounts.found; has = fine.0; fine = fine.1; behind = subst Behind is.mounts.past_is behind }
+  -- a ledger was mounted from images without a fault, and what holds behind the past that it told
+  sound_ledger : (disks : D × D) (ledger : LedgerPair D g) (past : Past) (epoch : ℕ) (images : List ℕ × List ℕ) (Behind : Past → Type 0) → IsLedger table limit disks ledger past epoch
+      → (g.view disks.0).content ≡ Some images.0 → (g.view disks.1).content ≡ Some images.1 → Behind past → IsSoundLedger table limit Behind images
+  sound_ledger disks ledger past epoch images Behind is tells spare_tells behind =
+      let found = is.mounts.mounts.found in
+      let told = (g.view disks.0).content in
+      let spare_told = (g.view disks.1).content in
+      let fine = told_fine kind.Ledger 0 told spare_told images.0 images.1 tells spare_tells (swapped_in ledger.fold) (HasRecords found) _ is.mounts.mounts.fine in
+      sound_pair kind.Ledger 0 told spare_told images.0 images.1 tells spare_tells (swapped_in ledger.fold) found (λ disk bodies. AreMountableAsLedger disk table limit bodies × Behind (past_in bodies))
+      is.mounts.opens.have (fine, subst Behind is.mounts.mounts.past_is behind)
 
-  module _ (reason : Reason) (old new : List D)
-      (back : GoesBack (λ before after. IsMounted g.view (ledger.to_write 0 table) (FailedAt reason 0) before after × IsReasonAt 0 (λ fault. IfSome (g.view before).content (ledger.IsFirstFault (ledger.IsLedgerFault 0 table limit) fault)) reason) old new) where
-    abbrev P : ImageFault → Type 0
-    P fault = IfSome (g.view back.before).content (ledger.IsFirstFault (ledger.IsLedgerFault 0 table limit) fault)
+  module _ (reason : PairNo) (old new : List (D × D)) (few : length old ≤ 17)
+      (back : GoesBack (λ before after. IsPairLeft g.view table (FailedAt reason) (IsBehind reason) 0 before after × IsLedgerPairNo table limit (g.view before.0).content (g.view before.1).content reason) old new) where
+    of_ledger : IsNoOfPair 0 reason
+    of_ledger = no_of_pair kind.Ledger 0 (g.view back.before.0).content (g.view back.before.1).content (λ disk bodies fault. IsLedgerFault disk table limit bodies fault) reason back.became.1
 
-    pub left_at_ledger : ((disk : D) (c : List ℕ) → (g.view disk).left_at (g.view disk).moment c ↔ (g.view disk).may_leave c) → AreLeft g.view table reason 0 old new
+    pub left_at_ledger : ((disk : D) (c : List ℕ) → (g.view disk).left_at (g.view disk).moment c ↔ (g.view disk).may_leave c) → ArePairsLeft g.view table reason 0 old new
     left_at_ledger here =
-        let it : IsLeft g.view table (FailedAt reason) (IsBehind reason) 0 back.before back.after = record { mounted = back.became.0; behind = λ b. absurd (not_behind_first reason b) } in
-        let rest : AreLeft g.view table reason 1 back.rest back.rest = unreached g.view here table reason 1 back.rest (λ n from low failed. not_failed 0 P reason n back.became.1 (λ same. omega (arith, from, same)) failed) in
-        let both : AreLeft g.view table reason 0 (back.before ∷ back.rest) (back.after ∷ back.rest) = (it, rest) in
-        subst (λ (l : List D). AreLeft g.view table reason 0 l new) (sym back.old_is) (subst (λ (l : List D). AreLeft g.view table reason 0 (back.before ∷ back.rest) l) (sym back.new_is) both)
+        let size : length old ≡ suc (length back.rest) = ap length back.old_is in
+        let rest : ArePairsLeft g.view table reason 1 back.rest back.rest = unreached_pairs g.view here table reason 1 back.rest (λ n from low.
+        let small : n ≤ 16 = omega (arith, low, size, few) in
+        let apart : n ≡ 0 → ⊥ = (λ same. omega (arith, from, same)) in
+        (not_failed 0 n n reason (omega arith) small apart (inl refl) of_ledger, not_failed 0 n (n + 17) reason (omega arith) small apart (inr refl) of_ledger)) in
+        let both : ArePairsLeft g.view table reason 0 (back.before ∷ back.rest) (back.after ∷ back.rest) = (back.became.0, rest) in
+        subst (λ (l : List (D × D)). ArePairsLeft g.view table reason 0 l new) (sym back.old_is) (subst (λ (l : List (D × D)). ArePairsLeft g.view table reason 0 (back.before ∷ back.rest) l) (sym back.new_is) both)
 
-    pub reason_of_ledger : (most : ℕ) → IsReasonAmong 0 most (λ bad. (images : List (List ℕ)) → TellImages g.view old images → IsFirstFault table limit bad images) reason
-    reason_of_ledger most = among_at 0 most 0 P (λ bad. (images : List (List ℕ)) → TellImages g.view old images → IsFirstFault table limit bad images) reason (omega arith) (omega arith) back.became.1
-        (λ bad at fault images told. first_image images bad at fault (subst (λ (l : List D). TellImages g.view l images) back.old_is told))
+    pub reason_of_ledger : (most : ℕ) → IsReasonAmong 0 most (λ bad. (images : List (List ℕ × List ℕ)) → TellInPairs g.view old images → IsFirstInPairs table limit bad images) reason
+    reason_of_ledger most = among_of 0 most 0 (λ bad. (images : List (List ℕ × List ℕ)) → TellInPairs g.view old images → IsFirstInPairs table limit bad images) reason (omega arith) (omega arith) of_ledger
+        (λ bad is images told. first_image images bad (subst (λ r. IsLedgerPairNo table limit (g.view back.before.0).content (g.view back.before.1).content r) is back.became.1)
+        (subst (λ (l : List (D × D)). TellInPairs g.view l images) back.old_is told))
       where
-        first_image : (images : List (List ℕ)) (bad : BadImage) → bad.disk ≡ 0 → IfSome (g.view back.before).content (ledger.IsFirstFault (ledger.IsLedgerFault 0 table limit) bad.fault) → TellImages g.view (back.before ∷ back.rest) images → IsFirstFault table limit bad images
-        first_image [] bad at fault told = absurd cc
-        first_image (image ∷ images) bad at fault told = inl (at, subst (λ o. IfSome o (ledger.IsFirstFault (ledger.IsLedgerFault 0 table limit) bad.fault)) (head_of _ _ _ _ told) fault)
+        first_image : (images : List (List ℕ × List ℕ)) (bad : BadImage) → IsLedgerPairNo table limit (g.view back.before.0).content (g.view back.before.1).content (Image bad) → TellInPairs g.view (back.before ∷ back.rest) images → IsFirstInPairs table limit bad images
+        first_image [] bad fault told = absurd cc
+        first_image (both ∷ images) bad fault told =
+            let here = head_of _ _ _ _ told in
+            inl (subst (λ o. IsLedgerPairNo table limit (Some both.0) o (Image bad)) (ap (λ o. o.1) here)
+            (subst (λ o. IsLedgerPairNo table limit o (g.view back.before.1).content (Image bad)) (ap (λ o. o.0) here) fault))
 
   -- THE COPIES BEHIND IT
 
-  module _ (mounted : Book D g) (past : Past) (epoch : ℕ) (old mid : List D) (taken : IsTaken (λ disk. IsLedger table limit disk mounted past epoch) old mid) where
-    module _ (most : ℕ) (reason : Reason) (among : IsReasonAmong 1 most (λ bad. (images : List (List ℕ)) → TellImages g.view mid images → IsCopiesFault table limit past bad 0 images) reason) where
-      pub left_behind : (after new : List D) → AreLeft g.view table reason 1 mid after → new ≡ disk_of (book.journal_of mounted) ∷ after → AreLeft g.view table reason 0 old new
+  module _ (ledger : LedgerPair D g) (past : Past) (epoch : ℕ) (old mid : List (D × D)) (taken : IsTaken (λ disks. IsLedger table limit disks ledger past epoch) old mid) where
+    module _ (most : ℕ) (few : most ≤ 16) (reason : PairNo) (among : IsReasonAmong 1 most (λ bad. (images : List (List ℕ × List ℕ)) → TellInPairs g.view mid images → IsCopiesFault table limit past bad 0 images) reason) where
+      pub left_behind : (after new : List (D × D)) → ArePairsLeft g.view table reason 1 mid after → new ≡ ledger_disks ledger ∷ after → ArePairsLeft g.view table reason 0 old new
       left_behind after new left is =
-          let disk : D = disk_of (book.journal_of mounted) in
-          let it : IsLeft g.view table (FailedAt reason) (IsBehind reason) 0 taken.disk disk = record {
-            mounted = mounted_for g.view (ledger.to_write 0 table) ⊥ (FailedAt reason 0) taken.disk disk (not_first_failed most _ reason among) (λ never. absurd never) taken.has.disk_is;
+          let disks : D × D = ledger_disks ledger in
+          let it : IsPairLeft g.view table (FailedAt reason) (IsBehind reason) 0 taken.first disks = record {
+            own = mounted_for g.view table 0 (g.view taken.first.0).content (g.view taken.first.1).content _ ⊥ (FailedAt reason 0) taken.first.0 disks.0 (not_first_failed most 0 _ reason few among (inl refl)) (λ never. absurd never) taken.has.left.own;
+            spare = mounted_for g.view table 0 (g.view taken.first.0).content (g.view taken.first.1).content _ ⊥ (FailedAt reason 17) taken.first.1 disks.1 (not_first_failed most 17 _ reason few among (inr refl)) (λ never. absurd never) taken.has.left.spare;
             behind = λ b. absurd (not_behind_first reason b);
           } in
-          let both : AreLeft g.view table reason 0 (taken.disk ∷ mid) (disk ∷ after) = (it, left) in
-          subst (λ (l : List D). AreLeft g.view table reason 0 l new) (sym taken.old_is) (subst (λ (l : List D). AreLeft g.view table reason 0 (taken.disk ∷ mid) l) (sym is) both)
+          let both : ArePairsLeft g.view table reason 0 (taken.first ∷ mid) (disks ∷ after) = (it, left) in
+          subst (λ (l : List (D × D)). ArePairsLeft g.view table reason 0 l new) (sym taken.old_is) (subst (λ (l : List (D × D)). ArePairsLeft g.view table reason 0 (taken.first ∷ mid) l) (sym is) both)
 
-      pub reason_behind : IsReasonAmong 0 most (λ bad. (images : List (List ℕ)) → TellImages g.view old images → IsFirstFault table limit bad images) reason
-      reason_behind = among_more most _ (λ bad. (images : List (List ℕ)) → TellImages g.view old images → IsFirstFault table limit bad images) reason
-          (λ bad fault images told. later_image images bad fault (subst (λ (l : List D). TellImages g.view l images) taken.old_is told)) among
+      pub reason_behind : IsReasonAmong 0 most (λ bad. (images : List (List ℕ × List ℕ)) → TellInPairs g.view old images → IsFirstInPairs table limit bad images) reason
+      reason_behind = among_more most _ (λ bad. (images : List (List ℕ × List ℕ)) → TellInPairs g.view old images → IsFirstInPairs table limit bad images) reason
+          (λ bad fault images told. later_image images bad fault (subst (λ (l : List (D × D)). TellInPairs g.view l images) taken.old_is told)) among
         where
-          later_image : (images : List (List ℕ)) (bad : BadImage) → ((behind : List (List ℕ)) → TellImages g.view mid behind → IsCopiesFault table limit past bad 0 behind) → TellImages g.view (taken.disk ∷ mid) images → IsFirstFault table limit bad images
+          later_image : (images : List (List ℕ × List ℕ)) (bad : BadImage) → ((behind : List (List ℕ × List ℕ)) → TellInPairs g.view mid behind → IsCopiesFault table limit past bad 0 behind) → TellInPairs g.view (taken.first ∷ mid) images → IsFirstInPairs table limit bad images
           later_image [] bad fault told = absurd cc
-          later_image (image ∷ images) bad fault told =
-              inr (sound_ledger taken.disk mounted past epoch image (λ p. IsCopiesFault table limit p bad 0 images) taken.has (head_of _ _ _ _ told) (fault images (tail_of _ _ _ _ told)))
+          later_image (both ∷ images) bad fault told =
+              let here = head_of _ _ _ _ told in
+              inr (sound_ledger taken.first ledger past epoch both (λ p. IsCopiesFault table limit p bad 0 images) taken.has (ap (λ o. o.0) here) (ap (λ o. o.1) here) (fault images (tail_of _ _ _ _ told)))
 
   -- THE STORE
 
   -- no image of a store that was mounted has a fault
-  pub sound_store : (disks : List D) (parts : Parts D g) (images : List (List ℕ)) → IsStoreOf table limit disks parts → TellImages g.view disks images → AreSound table limit images
-  sound_store disks parts images store told = by images (subst (λ (l : List D). TellImages g.view l images) store.disks_are told)
+  sound_in_pairs : (pairs : List (D × D)) (parts : Parts D g) (images : List (List ℕ × List ℕ)) → IsStoreOf table limit pairs parts → TellInPairs g.view pairs images → AreSoundInPairs table limit images
+  sound_in_pairs pairs parts images store told = by images (subst (λ (l : List (D × D)). TellInPairs g.view l images) store.pairs_are told)
     where
-      by : (images : List (List ℕ)) → TellImages g.view (store.ledger_disk ∷ store.copy_disks) images → AreSound table limit images
+      by : (images : List (List ℕ × List ℕ)) → TellInPairs g.view (store.ledger_pair ∷ store.copy_pairs) images → AreSoundInPairs table limit images
       by [] told = absurd cc
-      by (image ∷ images) told = sound_ledger store.ledger_disk parts.book parts.past parts.epoch image (λ p. EachFrom (IsSoundCopy table limit p) 0 images) store.ledger_is (head_of _ _ _ _ told)
-          (sound_copies table parts.past limit 0 store.copy_disks parts.copies.items images store.copies_are (tail_of _ _ _ _ told))
+      by (both ∷ images) told =
+          let here = head_of _ _ _ _ told in
+          sound_ledger store.ledger_pair parts.ledger parts.past parts.epoch both (λ p. EachFrom (IsSoundCopy table limit p) 0 images) store.ledger_is (ap (λ o. o.0) here) (ap (λ o. o.1) here)
+          (sound_copies table parts.past parts.epoch limit 0 store.copy_pairs parts.copies.items images store.copies_are (tail_of _ _ _ _ told))
 
-  -- as many copies as disks behind the first
-  pub store_size : (disks : List D) (parts : Parts D g) (copies : ℕ) → IsStoreOf table limit disks parts → length disks ≡ copies + 1 → length parts.copies.items ≡ copies
-  store_size disks parts copies store size =
-      let pairs : length parts.copies.items ≡ length store.copy_disks = pairs_length (IsCopy table parts.past limit) 0 store.copy_disks parts.copies.items store.copies_are in
-      let all : length disks ≡ suc (length store.copy_disks) = ap length store.disks_are in
-      omega (arith, pairs, all, size)
+  pub sound_store : (disks : List D) (pairs : List (D × D)) (parts : Parts D g) (images : List (List ℕ)) → own_then_spares pairs ≡ disks → length disks ≡ all_places table.copies → IsStoreOf table limit pairs parts → TellImages g.view disks images
+      → AreSound table limit images
+  sound_store disks pairs parts images are size store told =
+      sound_in_pairs pairs parts (images_in_pairs table images) store (tell_in_pairs g.view table images pairs (pairs_many disks pairs table.copies are size) (subst (λ (l : List D). TellImages g.view l images) (sym are) told))
 
-  -- of these disks all were given, whatever came of it
-  pub given_all : (disks : List D) (answer : Result (Parts D g) (MountNo D)) → IfOk answer (IsStoreOf table limit disks) → IfErr answer (λ refused. AreLeft g.view table (reason_in refused) 0 disks (disks_in refused))
-      → given_by answer ≡ length disks
-  given_all disks (Ok parts) store left =
-      let pairs : length parts.copies.items ≡ length store.copy_disks = pairs_length (IsCopy table parts.past limit) 0 store.copy_disks parts.copies.items store.copies_are in
-      let all : length disks ≡ suc (length store.copy_disks) = ap length store.disks_are in
-      omega (arith, pairs, all)
-  given_all disks (Err refused) store left = pairs_length (IsLeft g.view table (FailedAt (reason_in refused)) (IsBehind (reason_in refused))) 0 disks (disks_in refused) left
-
--- REFUSALS
-
-module _ {D : Type 0} (view : D → DiskView) where
-  -- nothing was mounted
-  pub given_back : (here : (disk : D) (c : List ℕ) → (view disk).left_at (view disk).moment c ↔ (view disk).may_leave c) (offers : ℕ → Option (List ℕ)) (counts : ℕ → ℕ) (table : Table) (refused : MountNo D) (before now : ℕ)
-      → AreOffered view offers 0 (disks_in refused) → AreCounted view counts 0 (disks_in refused) → IsNotGiven (table.copies + 1) before now refused → ComeBack view offers counts table refused
-  given_back here offers counts table refused before now offered counted not = record {
-    given = disks_in refused;
-    offered = offered;
-    counted = counted;
-    left = unreached view here table (reason_in refused) 0 (disks_in refused) (none refused not);
-    not_all = λ few. refl;
-  }
-    where
-      none : (r : MountNo D) → IsNotGiven (table.copies + 1) before now r → (n : ℕ) → 0 ≤ n → n < 0 + length (disks_in r) → FailedAt (reason_in r) n → ⊥
-      none (no.Disk which disks) not n from low failed = omega (arith, not.0, low, failed)
-      none (no.Image fault disks) not n from low failed = failed
-      none (no.Memory disks) not n from low failed = failed
-
-  -- a disk of all was refused
-  pub come_back : (offers : ℕ → Option (List ℕ)) (counts : ℕ → ℕ) (table : Table) (refused : MountNo D) (reason : Reason) (disks new : List D) → AreOffered view offers 0 disks → AreCounted view counts 0 disks → length disks ≡ table.copies + 1
-      → AreLeft view table reason 0 disks new → reason_in refused ≡ reason → disks_in refused ≡ new → ComeBack view offers counts table refused
-  come_back offers counts table refused reason disks new offered counted size left why is = record {
-    given = disks;
-    offered = offered;
-    counted = counted;
-    left = subst (λ (r : Reason). AreLeft view table r 0 disks (disks_in refused)) (sym why) (subst (λ (l : List D). AreLeft view table reason 0 disks l) (sym is) left);
-    not_all = λ few. absurd (omega (arith, few, size));
-  }
-
-  pub not_mounted : (table : Table) (refused : MountNo D) (reason : Reason) (P : BadImage → Type 0) (disks new : List D) → length disks ≡ table.copies + 1 → AreLeft view table reason 0 disks new
-      → reason_in refused ≡ reason → disks_in refused ≡ new → IsReasonAmong 0 table.copies P reason → IsNotMounted table.copies refused
-  not_mounted table refused reason P disks new size left why is among = record {
-    all = ap length is ∙ (pairs_length (IsLeft view table (FailedAt reason) (IsBehind reason)) 0 disks new left ∙ size);
-    reason = subst (IsReasonAmong 0 table.copies (λ bad. Unit {0})) (sym why) (some reason among);
-  }
-    where
-      some : (r : Reason) → IsReasonAmong 0 table.copies P r → IsReasonAmong 0 table.copies (λ bad. Unit {0}) r
-      some (Disk which) among = among
-      some (Image bad) among = (among.0, among.1, tt)
-      some Memory among = tt
-
-  pub fault_of : (table : Table) (limit : ℕ) (images : List (List ℕ)) (refused : MountNo D) (reason : Reason) (most : ℕ) (disks : List D) → TellImages view disks images
-      → IsReasonAmong 0 most (λ bad. (images : List (List ℕ)) → TellImages view disks images → IsFirstFault table limit bad images) reason → reason_in refused ≡ reason → IsFaultOf table limit images refused
-  fault_of table limit images refused reason most disks told among why = by refused (subst (IsReasonAmong 0 most (λ bad. (images : List (List ℕ)) → TellImages view disks images → IsFirstFault table limit bad images)) (sym why) among)
-    where
-      by : (r : MountNo D) → IsReasonAmong 0 most (λ bad. (images : List (List ℕ)) → TellImages view disks images → IsFirstFault table limit bad images) (reason_in r) → IsFaultOf table limit images r
-      by (no.Disk which disks) among = tt
-      by (no.Image fault disks) among = among.2 images told
-      by (no.Memory disks) among = tt
-
-  -- the shop's disks have no fault of an image
-  pub no_fault_given : (table : Table) (limit : ℕ) (images : List (List ℕ)) (count before now : ℕ) (refused : MountNo D) → IsNotGiven count before now refused → IsFaultOf table limit images refused
-  no_fault_given table limit images count before now (no.Disk which disks) not = tt
-  no_fault_given table limit images count before now (no.Image fault disks) not = absurd not
-  no_fault_given table limit images count before now (no.Memory disks) not = tt
+  -- as many copies as pairs behind the first
+  pub store_size : (pairs : List (D × D)) (parts : Parts D g) (copies : ℕ) → IsStoreOf table limit pairs parts → length pairs ≡ copies + 1 → length parts.copies.items ≡ copies
+  store_size pairs parts copies store size =
+      let many : length parts.copies.items ≡ length store.copy_pairs = pairs_length (IsCopy table parts.past parts.epoch limit) 0 store.copy_pairs parts.copies.items store.copies_are in
+      let all : length pairs ≡ suc (length store.copy_pairs) = ap length store.pairs_are in
+      omega (arith, many, all, size)

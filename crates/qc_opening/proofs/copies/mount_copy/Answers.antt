@@ -1,21 +1,28 @@
--- What the mounting of a copy says of the next disk.
+-- What the mounting of a copy says of the next pair.
 use Rattle.std.proofs.Common.{◌+◌, ap, arith, length}
-use Rattle.std.specs.Prelude.{IfSome}
-use Rattle.qc_ledger.specs.Image.{IsFirstFault}
-use Rattle.qc_site.specs.Image.{to_write, IsCopyFault}
+use Rattle.qc_site.specs.Image.{IsCopyFault}
 use Rattle.qc_opening.specs.Waiting.{waiting_in}
-use Rattle.qc_opening.proofs.Mountings.Disks.{copy_refused}
+use Rattle.qc_opening.proofs.Mountings.Disks.{mounted_for}
+use Rattle.qc_opening.proofs.Mountings.Reasons.{failed_is, is_failed, no_of_pair, not_behind}
+use Rattle.qc_opening.proofs.Mountings.Sound.{copy_half}
 use Rattle.qc_opening.proofs.copies.mount_copy.Goals as goal
+use Rattle.qc_pair.specs.declared.kind.Kind.TheVariants as kind
 
 pub put_back-requires : goal.put_back-requires
-put_back-requires g c = omega (arith, ap length c.take.ensures.disks, c.take.ensures.room, c.requires.room)
+put_back-requires g c =
+    let room = c.take-disk.ensures.room (length (waiting_in c.args.waiting.now)) c.requires.room in
+    let size = ap length c.take-disk.ensures.pairs in
+    (omega (arith, room.0, size), omega (arith, room.1, size))
 
 pub returns-in-Ok-clause-mounted : goal.returns-in-Ok-clause-mounted
 returns-in-Ok-clause-mounted g c =
     let told = c.in-Ok.ensures in
+    let view = g.D.Disk.view in
+    let before = c.take-disk.result in
+    let half = copy_half view c.args.table.now c.args.copy (view before.0).content (view before.1).content in
     record {
-      disk = c.take.result;
-      old_is = c.take.ensures.disks;
+      first = before;
+      old_is = c.take-disk.ensures.pairs;
       has = record {
         mounts = told.mounts;
         number_is = told.copy.0;
@@ -23,22 +30,37 @@ returns-in-Ok-clause-mounted g c =
         limit_is = told.limit;
         up = told.up;
         start = told.start;
-        keeps = told.keeps;
-        disk_is = record { any_moment = told.any_moment; grows = told.grows; cause = told.cause; once = told.counts_once };
+        folds = told.fold;
+        left = record { own = half _ _ _ _ told.own; spare = half _ _ _ _ told.spare };
       };
     }
 
 pub returns-in-Err-clause-refused : goal.returns-in-Err-clause-refused
 returns-in-Err-clause-refused g c =
     let told = c.in-Err.ensures in
-    let before = c.take.result in
+    let view = g.D.Disk.view in
+    let table = c.args.table.now in
+    let copy = c.args.copy in
+    let before = c.take-disk.result in
+    let own = (view before.0).content in
+    let spare = (view before.1).content in
+    let reason = c.in-Err.no in
+    let of = no_of_pair kind.Copy (copy + 1) own spare (λ disk bodies fault. IsCopyFault disk table c.args.past.now c.args.limit bodies fault) reason told.refused in
     record {
       before = before;
-      after = c.in-Err.disk;
-      rest = waiting_in c.take.new.self;
-      old_is = c.take.ensures.disks;
-      new_is = c.put_back.ensures.disks;
-      became = copy_refused g.D.Disk.view c.args.copy (to_write (c.args.copy + 1) c.args.table.now) before c.in-Err.disk c.in-Err.no c.copy_reason.result
-          (λ fault. IfSome (g.D.Disk.view before).content (IsFirstFault (IsCopyFault (c.args.copy + 1) c.args.table.now c.args.past.now c.args.limit) fault)) c.copy_reason.ensures
-          (record { any_moment = told.any_moment; grows = told.grows; cause = told.cause; once = told.counts_once }) told.refused;
+      after = (c.in-Err.disk, c.in-Err.spare);
+      rest = waiting_in c.take-disk.new.self;
+      old_is = c.take-disk.ensures.pairs;
+      new_is = c.put_back.ensures.pairs;
+      became = (
+        record {
+          own = mounted_for view table (copy + 1) own spare _ _ _ before.0 c.in-Err.disk (failed_is reason (copy + 1)) (is_failed reason (copy + 1)) (copy_half view table copy own spare _ _ before.0 c.in-Err.disk told.own);
+          spare = mounted_for view table (copy + 1) own spare _ _ _ before.1 c.in-Err.spare (failed_is reason (copy + 1 + 17)) (is_failed reason (copy + 1 + 17)) (copy_half view table copy own spare _ _ before.1 c.in-Err.spare told.spare);
+          behind = λ b. absurd (not_behind (copy + 1) (copy + 1) reason (omega (arith, c.requires.copy, c.requires.few)) (omega arith) of b);
+        },
+        told.refused,
+      );
     }
+
+pub returns-in-Err-clause-room : goal.returns-in-Err-clause-room
+returns-in-Err-clause-room g c = λ pairs room. c.put_back.ensures.room pairs (c.take-disk.ensures.room pairs room)
