@@ -1,6 +1,5 @@
 -- What a store's disks keep of its history.
 pub mod InOrder
-pub mod KeptImages
 pub mod Lists
 pub mod LedgerRecords
 pub mod CopyRecords

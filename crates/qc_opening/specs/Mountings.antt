@@ -1,5 +1,5 @@
 -- What the mountings of a store's disks found: at place 0 stands one of the ledger's, at place c + 1 one of copy c's.
-use Rattle.std.specs.Prelude.{ℕ, ◌≡◌, ◌+◌, ◌<◌, ◌≤◌, ◌^◌, ◌⊎◌, List, [], ◌∷◌, length, map, slice_index_or, All, Option, IfSome, IsSome}
+use Rattle.std.specs.Prelude.{ℕ, ◌≡◌, ◌+◌, ◌<◌, ◌≤◌, ◌^◌, ◌⊎◌, List, [], length, map, slice_index_or, All, Option, IfSome, IsSome}
 use Rattle.qc_codec.specs.Base.{base_in, copy_base, tuples_of_base}
 use Rattle.qc_codec.specs.Bodies as body
 use Rattle.qc_codec.specs.Copy.{grant_form}
@@ -13,11 +13,9 @@ use Rattle.qc_event.specs.History.{Past}
 use Rattle.qc_event.specs.Tables.{first_tuple, setting_of}
 use Rattle.qc_desk.specs.Held.{from_row}
 use Rattle.qc_journal.specs.Image.{HasRecords}
-use Rattle.qc_ledger.specs.Image as tops
 use Rattle.qc_ledger.specs.Mounted as ledger
 use Rattle.qc_refine.specs.Images.{CarryFinal, IsCopyImage}
 use Rattle.qc_refine.specs.Standing.{AreNext, committed_too}
-use Rattle.qc_site.specs.Image as grants
 use Rattle.qc_site.specs.Mounted as copies
 use Rattle.qc_system.specs.Left.{KeepsGrants, KeepsTops}
 
@@ -65,22 +63,3 @@ module _ (disk : ℕ → ℕ) where
   abbrev pub HaveNoGrantsOn : Table → (ℕ → Option (List ℕ)) → Type 0
   HaveNoGrantsOn table told = (copy : ℕ) → copy < table.copies
       → IsSome (told (copy + 1)) × IfSome (told (copy + 1)) (λ image. HasRecords [] image ⊎ IsCopyImage table (map first_tuple table.records) [] (disk (copy + 1)) image)
-
-  -- Each image of a store's disks is left so of another.
-  pub record AreCutOffOn (table : Table) (images later : List (List ℕ)) : Type 0 where
-    pub as_many : length later ≡ table.copies + 1
-    pub ledger : IsCutOff (tops.to_write (disk 0) table) (slice_index_or images 0 []) (slice_index_or later 0 [])
-    pub copies : (copy : ℕ) → copy < table.copies
-        → IsCutOff (grants.to_write (disk (copy + 1)) table) (slice_index_or images (copy + 1) []) (slice_index_or later (copy + 1) [])
-
-  -- Mountings one after another were cut off, which left these images in turn, and then the last ones.
-  abbrev pub AreLeftOn : Table → List (List ℕ) → List (List (List ℕ)) → List (List ℕ) → Type 0
-  AreLeftOn table images [] last = last ≡ images
-  AreLeftOn table images (next ∷ later) last = AreCutOffOn table images next × AreLeftOn table next later last
-
--- the disk at each place is the one of that number
-abbrev pub IsMounted : Table → (ℕ → Option (List ℕ)) → (ℕ → List (List ℕ)) → ℕ → List (List Tuple) → Type 0
-IsMounted = MountedOn (λ place. place)
-
-abbrev pub HaveNoGrants : Table → (ℕ → Option (List ℕ)) → Type 0
-HaveNoGrants = HaveNoGrantsOn (λ place. place)

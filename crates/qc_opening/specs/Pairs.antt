@@ -1,19 +1,26 @@
 -- What the mountings of a store's pairs of disks found: pair 0 is the ledger's, pair c + 1 copy c's. What is of the disk of pair n
 -- stands at place n, and what is of its spare at place copies + 1 + n.
-use Rattle.std.specs.Prelude.{ℕ, ◌≡◌, ◌+◌, ◌<◌, Bool, true, false, if◌then◌else◌, List, [], ◌∷◌, length, map, Option}
+use Rattle.std.specs.Prelude.{ℕ, ◌≡◌, ◌+◌, ◌<◌, ◌⊎◌, Bool, true, false, not, if◌then◌else◌, List, [], ◌∷◌, length, map, Option}
 use Rattle.std.specs.List.{range_with_len}
 use Rattle.qc_codec.specs.Base.{copy_base, is_swapped, ledger_base}
+use Rattle.qc_codec.specs.Bodies as body
 use Rattle.qc_codec.specs.Form.{Form}
+use Rattle.qc_codec.specs.Ledger.{made_for}
 use Rattle.qc_codec.specs.declared.record.BaseRecord.{BaseRecord}
 use Rattle.qc_config.specs.declared.tuple.Tuple.{Tuple}
 use Rattle.qc_event.specs.declared.table.Table.{Table}
 use Rattle.qc_event.specs.History.{Past}
+use Rattle.qc_event.specs.Standing.{HasEnded}
+use Rattle.qc_event.specs.Tables.{setting_of}
 use Rattle.qc_journal.specs.Image.{HasRecords}
 use Rattle.qc_ledger.specs.Image as tops
 use Rattle.qc_opening.specs.Mountings.{AreKept, HaveNoGrantsOn, IsCutOff, MountedOn}
+use Rattle.qc_pair.specs.Front.{base_form, number_in}
 use Rattle.qc_pair.specs.Opening.{HaveActive}
 use Rattle.qc_pair.specs.Pair.{number_at}
+use Rattle.qc_pair.specs.declared.kind.Kind.{Kind}
 use Rattle.qc_pair.specs.declared.kind.Kind.TheVariants as kind
+use Rattle.qc_refine.specs.Folded.{seen_row}
 use Rattle.qc_refine.specs.Pairs.{image_of, spare_image}
 use Rattle.qc_site.specs.Image as grants
 
@@ -46,6 +53,12 @@ pub record MountedInPairs (table : Table) (told : ℕ → Option (List ℕ)) (re
   pub copies : (copy : ℕ) (there : copy < table.copies)
       → HaveActive kind.Copy (copy + 1) (told (copy + 1)) (told (table.copies + 1 + (copy + 1))) (swapped (copy + 1)) (mounted.copies copy there).found
 
+-- Bodies are those that were found on the other disk of each pair.
+pub record AreOthers {table : Table} {told : ℕ → Option (List ℕ)} {records : ℕ → List (List ℕ)} {epoch : ℕ} {base : List (List Tuple)} (m : MountedInPairs table told records epoch base) (others : ℕ → List (List ℕ)) : Type 0 where
+  pub ledger : others 0 ≡ (if m.swapped 0 then m.ledger.own else m.ledger.spare)
+  pub copies : (copy : ℕ) (there : copy < table.copies)
+      → others (copy + 1) ≡ (if m.swapped (copy + 1) then (m.copies copy there).own else (m.copies copy there).spare)
+
 -- Of each disk of these pairs one image: that of an active one tells what it keeps of a history behind the records, that of
 -- another has the records that it had.
 pub record AreKeptInPairs {table : Table} {told : ℕ → Option (List ℕ)} {records : ℕ → List (List ℕ)} {epoch : ℕ} {base : List (List Tuple)} (m : MountedInPairs table told records epoch base) (past : Past) (images : List (List ℕ)) : Type 0 where
@@ -59,6 +72,49 @@ pub record AreKeptInPairs {table : Table} {told : ℕ → Option (List ℕ)} {re
 -- made.
 abbrev pub HaveNoGrantsInPairs : Table → (ℕ → Option (List ℕ)) → Type 0
 HaveNoGrantsInPairs table told = HaveNoGrantsOn (number_at false) table told × HaveNoGrantsOn (number_at true) table (λ pair. told (table.copies + 1 + pair))
+
+-- PAIRS THAT WERE FOLDED
+
+-- No fold into a disk was finished: its image has the records that it had, or none, or only how the disk was made.
+abbrev pub IsUnfolded : List (List ℕ) → List ℕ → List ℕ → Type 0
+IsUnfolded had made image = HasRecords had image ⊎ (HasRecords [] image ⊎ HasRecords (made ∷ []) image)
+
+-- the base to which bodies that were found are folded, of the next number and of a run's epoch
+abbrev pub next_base : Kind → List (List ℕ) → ℕ → List Tuple → BaseRecord
+next_base kind found epoch tuples = record { number = number_in kind found + 1; epoch = epoch; tuples = tuples }
+
+-- A fold into a disk was finished: its image has how the disk was made and the next base, and no more.
+pub record IsFolded (kind : Kind) (table : Table) (found : List (List ℕ)) (epoch : ℕ) (tuples : List Tuple) (made image : List ℕ) : Type 0 where
+  pub fits : (base_form kind table).fits (next_base kind found epoch tuples)
+  pub has : HasRecords (made ∷ (base_form kind table).spell (next_base kind found epoch tuples) ∷ []) image
+
+module _ {table : Table} {told : ℕ → Option (List ℕ)} {records : ℕ → List (List ℕ)} {epoch : ℕ} {base : List (List Tuple)} (m : MountedInPairs table told records epoch base) (past : Past) (images : List (List ℕ)) where
+  -- of a pair's other disk the image, and how it was made
+  abbrev pub other_image : ℕ → List ℕ
+  other_image pair = of_other table m.swapped (image_of table images) pair
+
+  abbrev pub other_made : ℕ → List ℕ
+  other_made pair = body.made.spell (made_for (number_at (not (m.swapped pair)) pair) table)
+
+  -- the ledger's pair was folded, which keeps nothing but the epoch
+  abbrev pub IsLedgerFolded : Type 0
+  IsLedgerFolded = IsFolded kind.Ledger table m.mounted.ledger.found epoch [] (other_made 0) (other_image 0)
+
+  -- a copy's pair was folded, to what the copy holds at the end of the history
+  abbrev pub IsCopyFolded : (copy : ℕ) → copy < table.copies → Type 0
+  IsCopyFolded copy there = IsFolded kind.Copy table (m.mounted.copies copy there).found epoch (seen_row (setting_of table base) past copy) (other_made (copy + 1)) (other_image (copy + 1))
+
+  -- Of each disk of these pairs one image: that of an active one tells what it keeps of a history behind the records. Into
+  -- another it was folded, once each top had its end, of the ledger's pair only where each copy's was; or no such fold was
+  -- finished.
+  pub record AreLeftByFolds : Type 0 where
+    pub as_many : length images ≡ table.copies + 1 + (table.copies + 1)
+    pub active : AreKept table base records past (active_images table m.swapped images)
+    pub ledger : IsUnfolded (if m.swapped 0 then m.ledger.own else m.ledger.spare) (other_made 0) (other_image 0)
+        ⊎ (HasEnded past × IsLedgerFolded × ((copy : ℕ) (there : copy < table.copies) → IsCopyFolded copy there))
+    pub copies : (copy : ℕ) (there : copy < table.copies)
+        → IsUnfolded (if m.swapped (copy + 1) then (m.copies copy there).own else (m.copies copy there).spare) (other_made (copy + 1)) (other_image (copy + 1))
+        ⊎ (HasEnded past × IsCopyFolded copy there)
 
 -- MOUNTINGS THAT WERE CUT OFF
 

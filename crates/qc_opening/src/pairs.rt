@@ -9,12 +9,13 @@ ghost use Rattle.qc_event.specs.Tables.{base_of, setting_of};
 ghost use Rattle.qc_refine.specs.Pairs.{RestoreInPairs, StandInPairs, StandInPairsWithin};
 ghost use Rattle.qc_refine.specs.Standing.{IsOfEpoch};
 ghost use Rattle.qc_opening.specs.Mountings.{CarryNext};
-ghost use Rattle.qc_opening.specs.Pairs.{AreCutOffInPairs, AreKeptInPairs, AreLeftInPairs, HaveNoGrantsInPairs, MountedInPairs};
+ghost use Rattle.qc_opening.specs.Pairs.{AreCutOffInPairs, AreLeftByFolds, AreLeftInPairs, HaveNoGrantsInPairs, MountedInPairs};
 
 /// A store is mounted over pairs of disks, and runs from what these restore: of each pair it mounts the active disk, and
 /// writes on that alone. Its history is legal, is no longer than a desk's may be, and has tops of the mounting's epoch
-/// alone. Each active disk keeps, behind the records of the mounting, what the history tells; each other disk keeps the
-/// records that it had.
+/// alone. Each active disk keeps, behind the records of the mounting, what the history tells. Once each top has its end,
+/// what each copy holds may be folded into the other disk of its pair, and then the ledger's pair, too. A fold may be cut
+/// off at any moment; a disk into which none was begun keeps the records that it had.
 ///
 /// Then images of these disks, one of each, stand in pairs beside the history, each pair with at most one record that it
 /// does not tell yet (`stands`). Mountings over images that stand in pairs, folded or not, may be cut off, any number of
@@ -27,7 +28,7 @@ pub fn kept_pairs_stand()
         → (epoch : ℕ) (base : List (List Tuple)) (m : MountedInPairs table told records epoch base)
         → (past : Past) (images : List (List ℕ))
         → Legal (setting_of table base) past → length past ≤ limit → IsOfEpoch epoch past
-        → AreKeptInPairs m past images
+        → AreLeftByFolds m past images
         → ∥ StandInPairsWithin 1 table base epoch past images ∥₁ }
     ensures restarts { (table : Table) (base : List (List Tuple)) (epoch : ℕ) (past : Past)
         → (images last : List (List ℕ)) (later : List (List (List ℕ))) (values : List ℕ)

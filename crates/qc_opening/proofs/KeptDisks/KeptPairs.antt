@@ -1,7 +1,11 @@
 -- What a store's pairs of disks keep of its history.
 pub mod WrittenBodies
 pub mod ActiveDisks
+pub mod FoldedDisks
+pub mod FoldedPairs
 pub mod PairsStand
 pub mod CutOffPairs
 pub mod NextMounting
 mod WorkedPairs
+mod WorkedFolds
+pub mod ImagesKept

@@ -1,8 +1,7 @@
 -- What the next mounting over a store's images starts from: what they restore, and where no grant stands on them the start
 -- tuples of the table.
-use Rattle.std.proofs.Common.{◌≡◌, ℕ, zero, suc, ◌+◌, ◌<◌, ◌≤◌, inl, inr, ◌⊎◌, List, [], ◌++◌, length, get_or, refl, sym, ap, ap₂, ◌∙◌, subst, arith, append-nil}
+use Rattle.std.proofs.Common.{◌≡◌, ℕ, zero, suc, ◌+◌, ◌<◌, inl, inr, ◌⊎◌, List, [], ◌++◌, length, get_or, refl, sym, ap, ap₂, ◌∙◌, subst, arith, append-nil}
 use Rattle.std.specs.Prelude.{map, Option, None, Some, IfSome, IsSome}
-use Rattle.std.proofs.Math.Logic.{∥∥₁_map}
 use Rattle.std.proofs.lemmas.Bool.{cases_lt}
 use Rattle.std.proofs.lemmas.List.{get_or_past, get_or-replicate, length-map, length-replicate}
 use Rattle.std.proofs.lemmas.List.FromFn.{get_or-map-range_with_len}
@@ -11,10 +10,8 @@ use Rattle.qc_event.specs.declared.event.Grant.{Grant}
 use Rattle.qc_event.specs.declared.table.Row.{Row}
 use Rattle.qc_event.specs.declared.table.Table.{Table}
 use Rattle.qc_event.specs.Base.{start_tuple}
-use Rattle.qc_event.specs.History.{Past, limit}
-use Rattle.qc_event.specs.Legal.{Legal}
-use Rattle.qc_event.specs.Sound.{IsSound}
-use Rattle.qc_event.specs.Tables.{base_of, first_tuple, setting_of}
+use Rattle.qc_event.specs.History.{limit}
+use Rattle.qc_event.specs.Tables.{base_of, first_tuple}
 use Rattle.qc_codec.specs.Base.{base_in, copy_base, tuples_of_base}
 use Rattle.qc_codec.specs.Copy.{grant_form}
 use Rattle.qc_codec.specs.Ledger.{readings}
@@ -24,16 +21,15 @@ use Rattle.qc_codec.specs.declared.past.Past.{Past as Logs}
 use Rattle.qc_desk.specs.Held.{from_row}
 use Rattle.qc_journal.proofs.Readings.{records-same}
 use Rattle.qc_journal.specs.Image.{HasRecords}
-use Rattle.qc_refine.specs.Images.{CarryFinal, IsCopyImage, Restores, StandOn, first_of, kept_in}
+use Rattle.qc_refine.specs.Images.{IsCopyImage, Restores, first_of, kept_in}
 use Rattle.qc_refine.specs.Folded.{begins}
 use Rattle.qc_refine.specs.Restored.{granted_at, restored}
-use Rattle.qc_refine.specs.Standing.{IsOfEpoch, committed_too}
 use Rattle.qc_refine.proofs.Restoring.ImageReadings.{copy_tells, copy_told}
-use Rattle.qc_refine.proofs.Restoring.RestoredImages.{carry_final, nothing_restored, restore_one, restore_some}
+use Rattle.qc_refine.proofs.Restoring.RestoredImages.{nothing_restored}
 use Rattle.qc_site.specs.Image.{AreMountableAsCopy, to_write}
-use Rattle.qc_opening.specs.Mountings.{AreKept, AreLeftOn, CarryNext, HaveNoGrantsOn, MountedOn}
-use Rattle.qc_opening.proofs.KeptDisks.CutOff.{left_many, left_restored, same_base, same_grants}
-use Rattle.qc_opening.proofs.KeptDisks.Stands.{first_at, first_many, rows_restored, stand}
+use Rattle.qc_opening.specs.Mountings.{HaveNoGrantsOn, MountedOn}
+use Rattle.qc_opening.proofs.KeptDisks.CutOff.{same_base, same_grants}
+use Rattle.qc_opening.proofs.KeptDisks.Stands.{first_at, first_many, rows_restored}
 
 -- what a mounting writes on a copy's disk tells no grant, nor with what it begins
 written_same : (table : Table) (disk : ℕ) (found : List (List ℕ)) → readings (grant_form table) (found ++ to_write disk table found) ≡ readings (grant_form table) found
@@ -88,26 +84,6 @@ module _ (disk : ℕ → ℕ) (table : Table) (images : List (List ℕ)) (record
         ∙ ap (λ (row : List Tuple). restored_row m.past.tops (length table.records) (from_row row) (readings (grant_form table) (records (copy + 1)))) (begin_read copy there)
         ∙ ap₂ (λ (tops : List Logged) (gs : List Grant). restored_row tops (length table.records) (start_tuple (first_of table bodies) copy) gs) tops_read (grants_read copy there));
   }
-
-module _ (disk : ℕ → ℕ) (table : Table) (told : ℕ → Option (List ℕ)) (records later_records : ℕ → List (List ℕ)) (epoch later_epoch : ℕ) (base later_base : List (List Tuple)) (past : Past) (images last : List (List ℕ)) (later : List (List (List ℕ)))
-    (values : List ℕ) where
-  -- the next mounting that is not cut off carries the serial machine's values after the history, and after tops whose
-  -- commits may come next
-  pub restart : MountedOn disk table told records epoch base → Legal (setting_of table base) past → length past ≤ limit → IsOfEpoch epoch past → AreKept table base records past images → IsSound (setting_of table base) values
-      → AreLeftOn disk table images later last → MountedOn disk table (λ number. Some (get_or last number [])) later_records later_epoch later_base
-      → ∥ CarryNext table values past later_base ∥₁
-  restart m legal few of_epoch kept sound left mounted = ∥∥₁_map (stand disk table told records epoch base m past images legal few of_epoch kept) (λ within. carried within.standing)
-    where
-      carried : StandOn disk table base epoch past images → CarryNext table values past later_base
-      carried s =
-          let (tuples, restored) = restore_some disk table images base epoch past s in
-          let same : tuples ≡ later_base = restore_one table last tuples later_base (left_restored disk table images last later left tuples restored)
-          (restores disk table last later_records later_epoch later_base mounted (left_many disk table images last later kept.as_many left)) in
-          record {
-            more = s.beside.more;
-            next = s.beside.next;
-            carry = subst (CarryFinal table values (committed_too past s.beside.more)) same (carry_final disk table images base epoch past s tuples restored values legal sound);
-          }
 
 -- THE FIRST MOUNTING
 

@@ -29,7 +29,7 @@ use Rattle.qc_codec.specs.Fields.{config, half, long, word}
 use Rattle.qc_codec.proofs.Order.{each_none}
 use Rattle.qc_ledger.specs.Image as tops
 use Rattle.qc_site.specs.Image as grants
-use Rattle.qc_opening.specs.Mountings.{AreBytes, AreKept, IsMounted}
+use Rattle.qc_opening.specs.Mountings.{AreBytes, AreKept, MountedOn}
 use Rattle.qc_opening.proofs.KeptDisks.InOrder.{Bytes}
 
 abbrev row : Row
@@ -101,7 +101,7 @@ copy_room place (inr later) = later.1
 abbrev empty : ℕ → Option (List ℕ)
 empty number = Some []
 
-pub mounted : IsMounted table empty records 1 (base_of table)
+pub mounted : MountedOn (λ place. place) table empty records 1 (base_of table)
 mounted = record {
   past = record { epoch = 0; base = None; tops = [] };
   limit = λ number. 1000;
@@ -141,7 +141,7 @@ mounted = record {
 
 -- THE IMAGES
 
-has : (bodies : List (List ℕ)) → All IsShort bodies → HasRecords bodies (records_row bodies ++ 0 ∷ [])
+pub has : (bodies : List (List ℕ)) → All IsShort bodies → HasRecords bodies (records_row bodies ++ 0 ∷ [])
 has bodies short = inr (length (records_row bodies), record { gate = 0; rest = []; split = refl; closed = λ is. cc; size = refl; short = short })
 
 abbrev pub images : List (List ℕ)

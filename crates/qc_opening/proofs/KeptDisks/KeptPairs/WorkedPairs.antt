@@ -6,7 +6,7 @@ use Rattle.qc_event.specs.Tables.{base_of}
 use Rattle.qc_journal.proofs.Readings.{records-same}
 use Rattle.qc_journal.specs.Image.{HasRecords}
 use Rattle.qc_opening.specs.Pairs.{AreKeptInPairs, MountedInPairs}
-use Rattle.qc_opening.proofs.KeptDisks.KeptPairs.PairsStand.{stand}
+use Rattle.qc_opening.proofs.KeptDisks.KeptPairs.PairsStand.{kept_left, stand}
 use Rattle.qc_opening.proofs.KeptDisks.Worked.{images, kept, mounted, records, table}
 use Rattle.qc_pair.specs.Opening.{HaveActive}
 use Rattle.qc_pair.specs.declared.kind.Kind.{Kind}
@@ -18,10 +18,10 @@ abbrev none_swapped : ℕ → Bool
 none_swapped pair = false
 
 -- nothing was found
-no_record : HasRecords [] []
+pub no_record : HasRecords [] []
 no_record = inl (refl, omega arith)
 
-own_active : (who : ℕ) (form : Kind) (found : List (List ℕ)) → HasRecords found [] → HaveActive form who (Some []) (Some []) false found
+pub own_active : (who : ℕ) (form : Kind) (found : List (List ℕ)) → HasRecords found [] → HaveActive form who (Some []) (Some []) false found
 own_active who form found has = record {
   own = [];
   spare = [];
@@ -32,7 +32,7 @@ own_active who form found has = record {
   swapped_is = refl;
 }
 
-abbrev pairs_mounted : MountedInPairs table (λ place. Some []) records 1 (base_of table)
+abbrev pub pairs_mounted : MountedInPairs table (λ place. Some []) records 1 (base_of table)
 pairs_mounted = record {
   swapped = none_swapped;
   mounted = mounted;
@@ -59,4 +59,5 @@ pairs_kept = record {
 
 -- so they stand beside the empty history
 stands : ∥ StandInPairsWithin 1 table (base_of table) 1 [] pair_images ∥₁
-stands = stand table (λ place. Some []) records 1 (base_of table) pairs_mounted [] pair_images tt (omega arith) (λ number began. absurd (true≢false (sym began))) pairs_kept
+stands = stand table (λ place. Some []) records 1 (base_of table) pairs_mounted [] pair_images tt (omega arith) (λ number began. absurd (true≢false (sym began)))
+    (kept_left table (λ place. Some []) records 1 (base_of table) pairs_mounted [] pair_images pairs_kept)
