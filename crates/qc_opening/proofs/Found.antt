@@ -1,207 +1,157 @@
--- What was found on the disks of a store that was mounted.
-use Rattle.std.proofs.Common.{◌≡◌, ℕ, zero, suc, ◌+◌, ◌<◌, ◌≤◌, ◌^◌, List, [], ◌∷◌, length, map, get_or, refl, sym, ap, ◌∙◌, subst, arith}
-use Rattle.std.specs.Prelude.{All, Option, None, Some, is_some, slice_get, slice_index_or}
-use Rattle.std.proofs.lemmas.List.{length-map}
-use Rattle.qc_config.specs.declared.tuple.Tuple.{Tuple}
+-- What was found on each pair of disks of a store that was mounted.
+use Rattle.std.proofs.Common.{◌≡◌, ℕ, ◌+◌, ◌≤◌, Bool, true, false, List, [], ◌∷◌, map, refl, sym, ap, ap₂, ◌∙◌, subst}
+use Rattle.std.specs.Prelude.{if◌then◌else◌, Option, IfSome, IsSome, is_some, slice_index_or}
 use Rattle.qc_disk.specs.Disk.{DiskView}
 use Rattle.qc_disk.specs.declared.disk.Disk.{Ghosts}
-use Rattle.qc_codec.specs.Base.{base_in, copy_base, tuples_of_base}
-use Rattle.qc_codec.specs.Bodies as body
-use Rattle.qc_codec.specs.Copy.{grant_form}
-use Rattle.qc_codec.specs.Ledger.{readings}
-use Rattle.qc_codec.specs.Restored.{restored_row}
 use Rattle.qc_event.specs.declared.table.Table.{Table}
-use Rattle.qc_desk.specs.Held.{from_row}
-use Rattle.qc_journal.specs.Journal.{disk_of, limit_of}
 use Rattle.qc_journal.specs.Image.{HasRecords}
+use Rattle.qc_journal.specs.Journal.{disk_of, limit_of, IsUp, Keeps}
+use Rattle.qc_journal.specs.declared.journal.Journal.{Journal}
 use Rattle.qc_ledger.specs.Mounted as book
-use Rattle.qc_ledger.proofs.Logging.{up_by}
 use Rattle.qc_ledger.proofs.Writing.{kept_has}
-use Rattle.qc_ledger.specs.declared.book.Book.{Book}
-use Rattle.qc_opening.specs.Mounted.{copy_disk, IsCopy}
-use Rattle.qc_opening.specs.declared.parts.Parts.{Parts}
-use Rattle.qc_site.specs.Mounted as copy
-use Rattle.qc_site.specs.Start.{start_of}
-use Rattle.qc_site.specs.declared.mounted.Mounted.{Mounted}
-use Rattle.qc_opening.specs.Mountings.{AreBytes, IsMounted}
-use Rattle.qc_system.specs.Grown.{LeftAlike}
-use Rattle.qc_system.specs.Parts.{AreMounted, Findings, IsFound}
-use Rattle.qc_system.specs.Parts as system
-use Rattle.qc_opening.specs.Parts.{counted_by, told_by, IsStoreOver}
+use Rattle.qc_opening.specs.Disks.{told_by}
+use Rattle.qc_opening.specs.Pairs.{of_active, of_other}
+use Rattle.qc_opening.specs.Parts.{counted_by}
 use Rattle.qc_opening.specs.Stored.{WasMounted}
-use Rattle.qc_opening.proofs.Places.{all_at, at_place, get_next, mapped_at, pair_at}
+use Rattle.qc_opening.proofs.ReadBodies.{bodies_told, told_read}
+use Rattle.qc_pair.specs.Fold.{other_in, own_disk, spare_disk, swapped_in}
+use Rattle.qc_pair.specs.declared.fold.Fold.{Fold}
+use Rattle.qc_site.specs.Mounted as copy
+use Rattle.qc_system.specs.Grown.{LeftAlike}
+use Rattle.qc_system.specs.Parts.{Findings, Found, IsFound, IsOther}
+use Rattle.qc_system.specs.declared.parts.CopyPair.{CopyPair}
+use Rattle.qc_system.specs.declared.parts.LedgerPair.{LedgerPair}
 
 -- a disk leaves what it leaves
 alike_itself : (disk : DiskView) → LeftAlike disk disk
 alike_itself disk = λ t c early. (λ left. left, λ left. left)
 
-module _ {D : Type 0} {g : Ghosts D} where
-  -- the bodies of the records of each disk
-  abbrev pub bodies_found : Book D g → List (Mounted D g) → ℕ → List (List ℕ)
-  bodies_found ledger copies number = slice_index_or (book.records_of ledger ∷ map copy.records_of copies) number []
+-- one of both is one of the same
+one_same : {A : Type 0} {own spare own' spare' : A} {is_spare is_spare' : Bool} → is_spare ≡ is_spare' → own ≡ own' → spare ≡ spare' → (if is_spare then spare else own) ≡ (if is_spare' then spare' else own')
+one_same {A} {own} {spare} {own'} {spare'} {is_spare} {is_spare'} which first second = ap (λ b. if b then spare else own) which ∙ ap₂ (λ (o s : A). if is_spare' then s else o) first second
 
-  -- each disk as it was mounted
-  abbrev pub disk_found : Book D g → List (Mounted D g) → ℕ → D
-  disk_found ledger copies number = slice_index_or (disk_of (book.journal_of ledger) ∷ map copy_disk copies) number (disk_of (book.journal_of ledger))
+module _ {D : Type 0} {g : Ghosts D} where
+  -- of each pair, the ledger's first, the bodies of its records
+  abbrev pub bodies_found : LedgerPair D g → List (CopyPair D g) → ℕ → List (List ℕ)
+  bodies_found ledger copies pair = slice_index_or (book.records_of ledger.book ∷ map (λ p. copy.records_of p.copy) copies) pair []
+
+  -- whether its spare is active
+  abbrev pub swapped_found : LedgerPair D g → List (CopyPair D g) → ℕ → Bool
+  swapped_found ledger copies pair = slice_index_or (swapped_in ledger.fold ∷ map (λ p. swapped_in p.fold) copies) pair false
+
+  -- its active disk as it was mounted
+  abbrev pub active_found : LedgerPair D g → List (CopyPair D g) → ℕ → D
+  active_found ledger copies pair = slice_index_or (disk_of (book.journal_of ledger.book) ∷ map (λ p. disk_of (copy.journal_of p.copy)) copies) pair (disk_of (book.journal_of ledger.book))
+
+  -- and the other one
+  abbrev pub other_found : LedgerPair D g → List (CopyPair D g) → ℕ → D
+  other_found ledger copies pair = slice_index_or (disk_of (other_in ledger.fold) ∷ map (λ p. disk_of (other_in p.fold)) copies) pair (disk_of (other_in ledger.fold))
 
   -- the most bytes of a journal
-  abbrev pub limit_found : Book D g → ℕ
-  limit_found ledger = limit_of (book.journal_of ledger)
+  abbrev pub limit_found : LedgerPair D g → ℕ
+  limit_found ledger = limit_of (book.journal_of ledger.book)
 
-  abbrev pub found_of : List (Option (List ℕ)) → Book D g → List (Mounted D g) → List (List Tuple) → Findings
-  found_of told ledger copies base = record {
-    base = base;
-    told = λ number. is_some (told_by told number);
-    before = bodies_found ledger copies;
-    first = λ number. g.view (disk_found ledger copies number);
-    limit = limit_found ledger;
-  }
+  module _ (table : Table) (told : List (Option (List ℕ))) (ledger : LedgerPair D g) (copies : List (CopyPair D g)) where
+    -- what the active disk of a pair told, and the other one
+    abbrev active_told : ℕ → Option (List ℕ)
+    active_told pair = of_active table (swapped_found ledger copies) (told_by told) pair
 
-  -- the copies from one on were mounted so, where each was
-  are_mounted : (found : Findings) (number : ℕ) (copies : List (Mounted D g)) → ((i : ℕ) (m : Mounted D g) → slice_get copies i ≡ Some m → system.IsMounted found (number + i) m) → AreMounted found number copies
-  are_mounted found number [] each = tt
-  are_mounted found number (m ∷ copies) each = (
-    subst (λ n. system.IsMounted found n m) (omega arith) (each 0 m refl),
-    are_mounted found (number + 1) copies (λ i x is. subst (λ n. system.IsMounted found n x) (omega arith) (each (suc i) x is)),
-  )
+    abbrev other_told : ℕ → Option (List ℕ)
+    other_told pair = of_other table (swapped_found ledger copies) (told_by told) pair
 
-  module _ (table : Table) (told : List (Option (List ℕ))) (counts : List ℕ) (parts : Parts D g) (store : IsStoreOver table told counts parts) (all : length parts.copies.items ≡ table.copies) where
-    ledger_told : told_by told 0 ≡ (g.view store.mounted.ledger_disk).content
-    ledger_told = ap (λ l. told_by l 0) (sym store.contents) ∙ ap (λ (l : List D). told_by (map (λ disk. (g.view disk).content) l) 0) store.mounted.disks_are
+    abbrev pub found_on_active : ℕ → Found
+    found_on_active pair = record { told = is_some (active_told pair); before = bodies_found ledger copies pair; first = g.view (active_found ledger copies pair) }
 
-    ledger_counted : counted_by counts 0 ≡ (g.view store.mounted.ledger_disk).faults
-    ledger_counted = ap (λ l. counted_by l 0) (sym store.counted) ∙ ap (λ (l : List D). counted_by (map (λ disk. (g.view disk).faults) l) 0) store.mounted.disks_are
+    abbrev pub found_on_other : ℕ → Found
+    found_on_other pair = record { told = is_some (other_told pair); before = bodies_told (other_told pair); first = g.view (other_found ledger copies pair) }
 
-    -- what was mounted as a copy
-    pub record IsAt (i : ℕ) (m : Mounted D g) : Type 0 where
-      pub disk : D
-      pub is_copy : IsCopy table parts.past store.limit i disk m
-      pub disk_told : told_by told (i + 1) ≡ (g.view disk).content
-      pub disk_counted : counted_by counts (i + 1) ≡ (g.view disk).faults
-      pub bodies : bodies_found parts.book parts.copies.items (i + 1) ≡ copy.records_of m
-      pub mounted : disk_found parts.book parts.copies.items (i + 1) ≡ copy_disk m
+    abbrev pub found_of : Findings
+    found_of = record { swapped = swapped_found ledger copies; active = found_on_active; other = found_on_other; limit = limit_found ledger }
 
-    pub copy_at : (i : ℕ) (m : Mounted D g) → slice_get parts.copies.items i ≡ Some m → IsAt i m
-    copy_at i m is =
-        let (disk, there, has) = pair_at (IsCopy table parts.past store.limit) 0 store.mounted.copy_disks parts.copies.items store.mounted.copies_are i m is in
-        record {
-          disk = disk;
-          is_copy = subst (λ n. IsCopy table parts.past store.limit n disk m) (omega arith) has;
-          disk_told =
-              ap (λ l. told_by l (i + 1)) (sym store.contents)
-              ∙ (ap (λ (l : List D). told_by (map (λ d. (g.view d).content) l) (i + 1)) store.mounted.disks_are
-              ∙ (get_next (g.view store.mounted.ledger_disk).content (map (λ d. (g.view d).content) store.mounted.copy_disks) i None ∙ mapped_at (λ d. (g.view d).content) store.mounted.copy_disks i disk None there));
-          disk_counted =
-              ap (λ l. counted_by l (i + 1)) (sym store.counted)
-              ∙ (ap (λ (l : List D). counted_by (map (λ d. (g.view d).faults) l) (i + 1)) store.mounted.disks_are
-              ∙ (get_next (g.view store.mounted.ledger_disk).faults (map (λ d. (g.view d).faults) store.mounted.copy_disks) i 0 ∙ mapped_at (λ d. (g.view d).faults) store.mounted.copy_disks i disk 0 there));
-          bodies = get_next (book.records_of parts.book) (map copy.records_of parts.copies.items) i [] ∙ mapped_at copy.records_of parts.copies.items i m [] is;
-          mounted = get_next (disk_of (book.journal_of parts.book)) (map copy_disk parts.copies.items) i (disk_of (book.journal_of parts.book)) ∙ mapped_at copy_disk parts.copies.items i m (disk_of (book.journal_of parts.book)) is;
+    module _ (counts : List ℕ) where
+      -- A pair was mounted from these disks, with this active journal and these records.
+      pub record IsPairAt (pair : ℕ) (fold : Fold D g) (journal : Journal D g) (records : List (List ℕ)) (disks : D × D) : Type 0 where
+        pub own_told : told_by told pair ≡ (g.view disks.0).content
+        pub spare_told : told_by told (table.copies + 1 + pair) ≡ (g.view disks.1).content
+        pub own_counted : counted_by counts pair ≡ (g.view disks.0).faults
+        pub spare_counted : counted_by counts (table.copies + 1 + pair) ≡ (g.view disks.1).faults
+        pub own_later : (g.view disks.0).faults ≤ (g.view (own_disk fold (disk_of journal))).faults
+        pub spare_later : (g.view disks.1).faults ≤ (g.view (spare_disk fold (disk_of journal))).faults
+        pub bodies_are : bodies_found ledger copies pair ≡ records
+        pub swapped_is : swapped_found ledger copies pair ≡ swapped_in fold
+        pub active_is : active_found ledger copies pair ≡ disk_of journal
+        pub other_is : other_found ledger copies pair ≡ disk_of (other_in fold)
+        pub up : IsUp journal
+        pub keeps : IsSome (if swapped_in fold then (g.view disks.1).content else (g.view disks.0).content) → Keeps journal records
+        pub other_up : IsUp (other_in fold)
+        pub others : List (List ℕ)
+        pub others_had : IfSome (if swapped_in fold then (g.view disks.0).content else (g.view disks.1).content) (HasRecords others)
+        pub keeps_other : IsSome (if swapped_in fold then (g.view disks.0).content else (g.view disks.1).content) → Keeps (other_in fold) others
+
+      module _ (pair : ℕ) (fold : Fold D g) (journal : Journal D g) (records : List (List ℕ)) (disks : D × D) (at : IsPairAt pair fold journal records disks) where
+        -- WHAT WAS TOLD
+
+        pub active_told_is : active_told pair ≡ (if swapped_in fold then (g.view disks.1).content else (g.view disks.0).content)
+        active_told_is = one_same at.swapped_is at.own_told at.spare_told
+
+        other_told_is : other_told pair ≡ (if swapped_in fold then (g.view disks.0).content else (g.view disks.1).content)
+        other_told_is = one_same at.swapped_is at.spare_told at.own_told
+
+        keeps_active : is_some (active_told pair) ≡ true → Keeps journal records
+        keeps_active tells = at.keeps (sym (ap is_some active_told_is) ∙ tells)
+
+        -- on the other disk stand the bodies that are read of what it told
+        keeps_read : is_some (other_told pair) ≡ true → Keeps (other_in fold) (bodies_told (other_told pair))
+        keeps_read tells =
+            let tells_so = sym (ap is_some other_told_is) ∙ tells in
+            let read : bodies_told (other_told pair) ≡ at.others = ap bodies_told other_told_is ∙ told_read _ at.others at.others_had tells_so in
+            subst (Keeps (other_in fold)) (sym read) (at.keeps_other tells_so)
+
+        -- WHAT A SYSTEM ASKS
+
+        pub active_found_so : IsFound (found_on_active pair) records journal
+        active_found_so = record {
+          same = at.bodies_are;
+          keeps = keeps_active;
+          count = ap (λ d. (g.view d).faults) at.active_is;
+          at = ap (λ d. (g.view d).moment) at.active_is;
+          left = subst (λ d. LeftAlike (g.view d) (g.view (disk_of journal))) (sym at.active_is) (alike_itself (g.view (disk_of journal)));
         }
 
-    -- THE SYSTEM
+        pub other_found_so : IsOther found_of pair fold
+        other_found_so = record {
+          swapped = sym at.swapped_is;
+          up = at.other_up;
+          disk = record {
+            same = refl;
+            keeps = keeps_read;
+            count = ap (λ d. (g.view d).faults) at.other_is;
+            at = ap (λ d. (g.view d).moment) at.other_is;
+            left = subst (λ d. LeftAlike (g.view d) (g.view (disk_of (other_in fold)))) (sym at.other_is) (alike_itself (g.view (disk_of (other_in fold))));
+          };
+        }
 
-    pub ledger_found : IsFound (is_some (told_by told 0)) (bodies_found parts.book parts.copies.items 0) (g.view (disk_found parts.book parts.copies.items 0)) (book.records_of parts.book) (book.journal_of parts.book)
-    ledger_found = record {
-      same = refl;
-      keeps = λ tells. store.mounted.ledger_is.keeps (sym (ap is_some ledger_told) ∙ tells);
-      count = refl;
-      at = refl;
-      left = alike_itself (g.view (disk_of (book.journal_of parts.book)));
-    }
+        -- THE DISKS AS THEY WERE MOUNTED
 
-    -- each disk as it was mounted
-    pub was_found : (number : ℕ) → number ≤ table.copies → WasMounted g.view (disk_found parts.book parts.copies.items number) (bodies_found parts.book parts.copies.items number) (told_by told number)
-    was_found zero low = record {
-      tells = λ tells. ap is_some (ledger_found.keeps tells).told;
-      had = λ tells image left. kept_has (book.journal_of parts.book) (book.records_of parts.book) image (up_by (book.journal_of parts.book).state parts.book.up) (ledger_found.keeps tells) left;
-    }
-    was_found (suc i) low =
-        let (m, is) = at_place parts.copies.items i (omega (arith, low, all)) in
-        let at = copy_at i m is in
-        let next : i + 1 ≡ suc i = omega arith in
-        subst (λ n. WasMounted g.view (disk_found parts.book parts.copies.items n) (bodies_found parts.book parts.copies.items n) (told_by told n)) next
-        (subst (λ d. WasMounted g.view d (bodies_found parts.book parts.copies.items (i + 1)) (told_by told (i + 1))) (sym at.mounted) (record {
-          tells = λ tells. ap is_some (at.is_copy.keeps (sym (ap is_some at.disk_told) ∙ tells)).told;
-          had = λ tells image left. subst (λ bs. HasRecords bs image) (sym at.bodies) (kept_has (copy.journal_of m) (copy.records_of m) image (up_by (copy.journal_of m).state m.up) (at.is_copy.keeps (sym (ap is_some at.disk_told) ∙ tells)) left);
-        }))
+        pub active_was_so : WasMounted g.view (active_found ledger copies pair) (bodies_found ledger copies pair) (active_told pair)
+        active_was_so = record {
+          tells = λ tells. subst (λ d. IsSome (g.view d).content) (sym at.active_is) (ap is_some (keeps_active tells).told);
+          had = λ tells image left. subst (λ bodies. HasRecords bodies image) (sym at.bodies_are) (kept_has journal records image at.up (keeps_active tells) (subst (λ d. (g.view d).may_leave image) at.active_is left));
+        }
 
-    -- no disk's count fell while it was mounted
-    pub later_found : (number : ℕ) → number ≤ table.copies → counted_by counts number ≤ (g.view (disk_found parts.book parts.copies.items number)).faults
-    later_found zero low = subst (λ n. n ≤ (g.view (disk_of (book.journal_of parts.book))).faults) (sym ledger_counted) store.mounted.ledger_is.disk_is.cause.later
-    later_found (suc i) low =
-        let (m, is) = at_place parts.copies.items i (omega (arith, low, all)) in
-        let at = copy_at i m is in
-        let next : i + 1 ≡ suc i = omega arith in
-        subst (λ n. counted_by counts n ≤ (g.view (disk_found parts.book parts.copies.items n)).faults) next
-        (subst (λ d. counted_by counts (i + 1) ≤ (g.view d).faults) (sym at.mounted)
-        (subst (λ n. n ≤ (g.view (copy_disk m)).faults) (sym at.disk_counted) at.is_copy.disk_is.cause.later))
+        pub other_was_so : WasMounted g.view (other_found ledger copies pair) (bodies_told (other_told pair)) (other_told pair)
+        other_was_so = record {
+          tells = λ tells. subst (λ d. IsSome (g.view d).content) (sym at.other_is) (ap is_some (keeps_read tells).told);
+          had = λ tells image left. kept_has (other_in fold) (bodies_told (other_told pair)) image at.other_up (keeps_read tells) (subst (λ d. (g.view d).may_leave image) at.other_is left);
+        }
 
-    module _ (base : List (List Tuple)) (rows : base ≡ map start_of parts.copies.items) where
-      as_many : length base ≡ table.copies
-      as_many = ap length rows ∙ (length-map parts.copies.items start_of ∙ all)
-
-      copy_found : (i : ℕ) (m : Mounted D g) → slice_get parts.copies.items i ≡ Some m → system.IsMounted (found_of told parts.book parts.copies.items base) i m
-      copy_found i m is =
-          let at = copy_at i m is in
-          record {
-            number = at.is_copy.number_is;
-            many = at.is_copy.copies ∙ sym as_many;
-            starts = sym (ap (λ l. get_or l i []) rows ∙ mapped_at start_of parts.copies.items i m [] is);
-            disk = record {
-              same = at.bodies;
-              keeps = λ tells. at.is_copy.keeps (sym (ap is_some at.disk_told) ∙ tells);
-              count = ap (λ d. (g.view d).faults) at.mounted;
-              at = ap (λ d. (g.view d).moment) at.mounted;
-              left = subst (λ d. LeftAlike (g.view d) (g.view (copy_disk m))) (sym at.mounted) (alike_itself (g.view (copy_disk m)));
-            };
-            limit = at.is_copy.limit_is ∙ sym store.mounted.ledger_is.limit_is;
-          }
-
-      pub copies_found : AreMounted (found_of told parts.book parts.copies.items base) 0 parts.copies.items
-      copies_found = are_mounted (found_of told parts.book parts.copies.items base) 0 parts.copies.items (λ i m is. subst (λ n. system.IsMounted (found_of told parts.book parts.copies.items base) n m) (omega arith) (copy_found i m is))
-
-      -- THE MOUNTING
-
-      pub store_mounted : (body.table 1).fits table → parts.epoch < 2 ^ 32 → AreBytes (book.records_of parts.book) → All (λ m. AreBytes (copy.records_of m)) parts.copies.items
-          → IsMounted table (told_by told) (bodies_found parts.book parts.copies.items) parts.epoch base
-      store_mounted proper small ledger_bytes copies_bytes = record {
-        past = parts.past;
-        limit = λ n. store.limit;
-        proper = proper;
-        small = small;
-        bytes = bytes;
-        ledger = subst (λ o. book.MountsLedger 0 table store.limit o (book.records_of parts.book) parts.past parts.epoch) (sym ledger_told) store.mounted.ledger_is.mounts;
-        copies = λ i there. copies i there;
-        as_many = as_many;
-        starts = λ i there. starts i there;
-      }
-        where
-          bytes : (number : ℕ) → number ≤ table.copies → AreBytes (bodies_found parts.book parts.copies.items number)
-          bytes zero low = ledger_bytes
-          bytes (suc i) low =
-              let (m, is) = at_place parts.copies.items i (omega (arith, low, all)) in
-              subst AreBytes (sym (mapped_at copy.records_of parts.copies.items i m [] is)) (all_at (λ x. AreBytes (copy.records_of x)) parts.copies.items i m copies_bytes is)
-
-          copies : (i : ℕ) → i < table.copies → copy.MountsCopy (i + 1) table parts.past store.limit (told_by told (i + 1)) (bodies_found parts.book parts.copies.items (i + 1))
-          copies i there =
-              let (m, is) = at_place parts.copies.items i (omega (arith, there, all)) in
-              let at = copy_at i m is in
-              subst (λ o. copy.MountsCopy (i + 1) table parts.past store.limit o (bodies_found parts.book parts.copies.items (i + 1))) (sym at.disk_told)
-              (subst (λ bs. copy.MountsCopy (i + 1) table parts.past store.limit (g.view at.disk).content bs) (sym at.bodies) at.is_copy.mounts)
-
-          starts : (i : ℕ) → i < table.copies
-              → slice_index_or base i [] ≡ restored_row parts.past.tops (length table.records) (from_row (tuples_of_base table (base_in copy_base (bodies_found parts.book parts.copies.items (i + 1)))))
-              (readings (grant_form table) (bodies_found parts.book parts.copies.items (i + 1)))
-          starts i there =
-              let (m, is) = at_place parts.copies.items i (omega (arith, there, all)) in
-              let at = copy_at i m is in
-              ap (λ l. get_or l i []) rows
-              ∙ (mapped_at start_of parts.copies.items i m [] is
-              ∙ (at.is_copy.start ∙ ap (λ bs. restored_row parts.past.tops (length table.records) (from_row (tuples_of_base table (base_in copy_base bs))) (readings (grant_form table) bs)) (sym at.bodies)))
-
-      -- the same, by slices of what was mounted
-      pub mounted_by : (body.table 1).fits table → parts.epoch < 2 ^ 32 → (bodies : List (List ℕ)) → AreBytes bodies → bodies ≡ book.records_of parts.book
-          → (slice : List (Mounted D g)) → All (λ m. AreBytes (copy.records_of m)) slice → slice ≡ parts.copies.items → IsMounted table (told_by told) (bodies_found parts.book parts.copies.items) parts.epoch base
-      mounted_by proper small bodies are_bytes of_ledger slice all_bytes of_copies =
-          store_mounted proper small (subst AreBytes of_ledger are_bytes) (subst (All (λ (m : Mounted D g). AreBytes (copy.records_of m))) of_copies all_bytes)
+        -- no disk's count fell while it was mounted
+        pub active_later_so : of_active table (swapped_found ledger copies) (counted_by counts) pair ≤ (g.view (active_found ledger copies pair)).faults
+        active_later_so =
+            subst (λ d. of_active table (swapped_found ledger copies) (counted_by counts) pair ≤ (g.view d).faults) (sym at.active_is)
+            (subst (λ n. n ≤ (g.view (disk_of journal)).faults) (sym (one_same at.swapped_is at.own_counted at.spare_counted)) (one_later (swapped_in fold) at.own_later at.spare_later))
+          where
+            one_later : (b : Bool) → (g.view disks.0).faults ≤ (g.view (if b then disk_of (other_in fold) else disk_of journal)).faults → (g.view disks.1).faults ≤ (g.view (if b then disk_of journal else disk_of (other_in fold))).faults
+                → (if b then (g.view disks.1).faults else (g.view disks.0).faults) ≤ (g.view (disk_of journal)).faults
+            one_later true own spare = spare
+            one_later false own spare = own

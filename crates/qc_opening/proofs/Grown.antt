@@ -1,51 +1,69 @@
 -- What is kept of each disk since its mounting is growth of the disk as it was then.
-use Rattle.std.proofs.Common.{◌≡◌, ℕ, zero, suc, ◌+◌, ◌≤◌, true, List, sym, ◌∙◌, subst, arith}
+use Rattle.std.proofs.Common.{◌≡◌, ℕ, zero, suc, ◌+◌, ◌≤◌, true, List, [], length, subst, arith}
 use Rattle.std.specs.Prelude.{Option, Some, is_some, slice_get}
 use Rattle.std.proofs.Math.Logic.{∥∥₁_map}
-use Rattle.std.proofs.lemmas.Option.{slice_get_within}
 use Rattle.qc_disk.specs.Disk.{DiskView}
+use Rattle.qc_event.specs.Base.{Setting}
 use Rattle.qc_event.specs.Tables.{setting_of}
 use Rattle.qc_event.specs.declared.table.Table.{Table}
-use Rattle.qc_system.specs.Grown.{GrownFrom}
-use Rattle.qc_interp.proofs.Listing.Places.{some_same}
-use Rattle.qc_opening.specs.Stored.{disks_of, past_of, AreOfRun, HasGrown, HasKept, HaveGrown, UnablesHadCause}
+use Rattle.qc_opening.specs.Pairs.{of_active, of_other}
+use Rattle.qc_opening.specs.Stored.{active_place, disks_of, other_place, past_of, AreOfRun, HasGrown, HasKept, HaveGrown, UnablesHadCause, WasMounted}
 use Rattle.qc_opening.specs.declared.stored.Stored.{Stored}
+use Rattle.qc_opening.proofs.KeptOtherwise.{findings}
+use Rattle.qc_opening.proofs.KeptPlaces.{active_keeps, other_keeps}
+use Rattle.qc_system.specs.Closing.{CopyKeeps, LedgerKeeps, OtherKeeps}
+use Rattle.qc_system.specs.Grown.{GrownFrom}
+use Rattle.qc_system.specs.Parts.{Findings}
 
-module _ {D : Type 0} (view : D → DiskView) (table : Table) (most : ℕ) (told : ℕ → Option (List ℕ)) (stored : Stored D) (kept : HasKept view table most told stored) where
-  abbrev May : ℕ → List (List ℕ) → Type 0
-  May number = AreOfRun (setting_of table stored.ended.start) number (past_of stored)
+module _ {D : Type 0} (view : D → DiskView) where
+  -- one disk
+  grown_so : (first disk : D) (before : List (List ℕ)) (May : List (List ℕ) → Type 0) (told : Option (List ℕ)) → WasMounted view first before told → is_some told ≡ true → ∥ (is_some told ≡ true → GrownFrom (view first) before May (view disk)) ∥₁ → ∥ HasGrown view before May disk ∥₁
+  grown_so first disk before May told was tells grown = ∥∥₁_map grown (λ g. record { first = first; tells = was.tells tells; had = was.had tells; grown = g tells })
 
-  -- the disk at a place
-  grown_at : (number : ℕ) (disk other : D) → number ≤ table.copies → slice_get (disks_of stored) number ≡ Some other → slice_get (disks_of stored) number ≡ Some disk → is_some (told number) ≡ true
-      → ∥ (is_some (told number) ≡ true → GrownFrom (view (kept.firsts number)) (kept.records number) (May number) (view other)) ∥₁ → ∥ HasGrown view (kept.records number) (May number) disk ∥₁
-  grown_at number disk other low there is tells grown =
-      let was = kept.was number low in
-      let same : other ≡ disk = some_same other disk (sym there ∙ is) in
-      ∥∥₁_map grown (λ k. record {
-        first = kept.firsts number;
-        tells = was.tells tells;
-        had = was.had tells;
-        grown = subst (λ d. GrownFrom (view (kept.firsts number)) (kept.records number) (May number) (view d)) same (k tells);
-      })
+  module _ (table : Table) (most : ℕ) (told : ℕ → Option (List ℕ)) (stored : Stored D) (kept : HasKept view table most told stored) where
+    abbrev setting : Setting
+    setting = setting_of table stored.ended.start
 
-  each_grown : (number : ℕ) (disk : D) → slice_get (disks_of stored) number ≡ Some disk → is_some (told number) ≡ true → ∥ HasGrown view (kept.records number) (May number) disk ∥₁
-  each_grown zero disk is tells = let l = kept.kept.ledger in grown_at zero disk l.disk (omega arith) l.there is tells l.kept.grown
-  each_grown (suc copy) disk is tells =
-      let within = slice_get_within (disks_of stored) (suc copy) disk is in
-      let c = kept.kept.copies copy (omega (arith, within, kept.kept.many)) in
-      let next : copy + 1 ≡ suc copy = omega arith in
-      grown_at (suc copy) disk c.disk (omega (arith, within, kept.kept.many, kept.mounted.as_many)) (subst (λ n. slice_get (disks_of stored) n ≡ Some c.disk) next c.there) is tells
-      (subst (λ n. ∥ (is_some (told n) ≡ true → GrownFrom (view (kept.firsts n)) (kept.records n) (May (suc copy)) (view c.disk)) ∥₁) next c.kept.grown)
+    abbrev found : Findings
+    found = findings kept.mounted.swapped most kept.records (λ pair. view (kept.firsts pair)) (λ pair. view (kept.other_firsts pair)) (λ pair. is_some (of_active table kept.mounted.swapped told pair)) (λ pair. is_some (of_other table kept.mounted.swapped told pair)) kept.others
 
-  pub have_grown : HaveGrown view table told stored.epoch stored.ended.start (disks_of stored) (past_of stored)
-  have_grown = record { records = kept.records; mounted = kept.mounted; grown = each_grown }
+    many : length setting.base ≡ table.copies
+    many = kept.mounted.mounted.as_many
 
-  -- why the ledger and the copies were unable
-  pub had_cause : UnablesHadCause table most told stored.epoch stored.ended.start (past_of stored)
-  had_cause = record {
-    records = kept.records;
-    mounted = kept.mounted;
-    tops = λ tells. kept.kept.ledger.kept.full tells;
-    full = λ copy there tells. ∥∥₁_map (kept.kept.copies copy there).kept.full (λ full. full tells);
-    plain = λ copy there tells. (kept.kept.copies copy there).kept.plain tells;
-  }
+    -- a pair's active disk
+    active_grown : (pair : ℕ) (disk : D) → pair ≤ table.copies → slice_get (disks_of stored) (active_place table kept.mounted.swapped pair) ≡ Some disk → is_some (of_active table kept.mounted.swapped told pair) ≡ true
+        → ∥ HasGrown view (kept.records pair) (AreOfRun setting pair (past_of stored)) disk ∥₁
+    active_grown zero disk low is tells =
+        grown_so (kept.firsts 0) disk (kept.records 0) (AreOfRun setting 0 (past_of stored)) (of_active table kept.mounted.swapped told 0) (kept.was 0 low) tells
+        (active_keeps view setting found table (disks_of stored) (past_of stored) kept.kept many 0 (LedgerKeeps setting found) kept.kept.ledger disk is).grown
+    active_grown (suc copy) disk low is tells =
+        let next : copy + 1 ≡ suc copy = omega arith in
+        subst (λ n. slice_get (disks_of stored) (active_place table kept.mounted.swapped n) ≡ Some disk → is_some (of_active table kept.mounted.swapped told n) ≡ true → ∥ HasGrown view (kept.records n) (AreOfRun setting (suc copy) (past_of stored)) disk ∥₁) next
+        (λ there some. grown_so (kept.firsts (copy + 1)) disk (kept.records (copy + 1)) (AreOfRun setting (suc copy) (past_of stored)) (of_active table kept.mounted.swapped told (copy + 1)) (kept.was (copy + 1) (omega (arith, low))) some
+        (active_keeps view setting found table (disks_of stored) (past_of stored) kept.kept many (copy + 1) (CopyKeeps setting found copy) (kept.kept.copies copy (omega (arith, low, many))) disk there).grown) is tells
+
+    -- and the other one
+    other_at : (pair : ℕ) (disk : D) → pair ≤ table.copies → slice_get (disks_of stored) (other_place table kept.mounted.swapped pair) ≡ Some disk → OtherKeeps setting found pair (view disk)
+    other_at zero disk low is = other_keeps view setting found table (disks_of stored) (past_of stored) kept.kept many 0 (LedgerKeeps setting found) kept.kept.ledger disk is
+    other_at (suc copy) disk low is =
+        let next : copy + 1 ≡ suc copy = omega arith in
+        subst (λ n. slice_get (disks_of stored) (other_place table kept.mounted.swapped n) ≡ Some disk → OtherKeeps setting found n (view disk)) next
+        (other_keeps view setting found table (disks_of stored) (past_of stored) kept.kept many (copy + 1) (CopyKeeps setting found copy) (kept.kept.copies copy (omega (arith, low, many))) disk) is
+
+    other_grown : (pair : ℕ) (disk : D) → pair ≤ table.copies → slice_get (disks_of stored) (other_place table kept.mounted.swapped pair) ≡ Some disk → is_some (of_other table kept.mounted.swapped told pair) ≡ true
+        → ∥ HasGrown view (kept.others pair) (λ (more : List (List ℕ)). more ≡ []) disk ∥₁
+    other_grown pair disk low is tells =
+        grown_so (kept.other_firsts pair) disk (kept.others pair) (λ (more : List (List ℕ)). more ≡ []) (of_other table kept.mounted.swapped told pair) (kept.other_was pair low) tells (other_at pair disk low is).grown
+
+    pub have_grown : HaveGrown view table told stored.epoch stored.ended.start (disks_of stored) (past_of stored)
+    have_grown = record { records = kept.records; others = kept.others; mounted = kept.mounted; others_are = kept.others_are; grown = active_grown; kept = other_grown }
+
+    -- why the ledger and the copies were unable
+    pub had_cause : UnablesHadCause table most told stored.epoch stored.ended.start (past_of stored)
+    had_cause = record {
+      records = kept.records;
+      mounted = kept.mounted;
+      tops = λ tells. kept.kept.ledger.kept.active.full tells;
+      full = λ copy there tells. ∥∥₁_map (kept.kept.copies copy there).kept.active.full (λ full. full tells);
+      plain = λ copy there tells. (kept.kept.copies copy there).kept.active.plain tells;
+    }

@@ -1,8 +1,15 @@
 pub mod Places
+pub mod PairPlaces
+pub mod ReadBodies
+pub mod OtherBodies
 pub mod Epochs
 pub mod Proper
 pub mod Found
+pub mod MountedStore
 pub mod Unboxed
+pub mod Otherwise
+pub mod KeptOtherwise
+pub mod KeptPlaces
 pub mod Told
 pub mod Paid
 pub mod Leaving

@@ -1,15 +1,20 @@
 -- Lists and their places.
-use Rattle.std.proofs.Common.{◌≡◌, ℕ, zero, suc, ◌+◌, ◌<◌, List, [], ◌∷◌, ◌++◌, length, map, get_or, refl, sym, ap, ap₂, ◌∙◌, subst, arith, add-one}
+use Rattle.std.proofs.Common.{◌≡◌, ℕ, zero, suc, ◌+◌, ◌<◌, List, [], ◌∷◌, ◌++◌, length, map, get_or, refl, sym, ap, ◌∙◌, subst, arith, add-one}
 use Rattle.std.specs.Prelude.{All, Some, slice_get, reverse}
 use Rattle.std.proofs.lemmas.List.{append_assoc, map-append, reverse-append, reverse-reverse}
 use Rattle.std.proofs.lemmas.Option.{get_or_from_slice_get, slice_get_within}
 use Rattle.qc_opening.specs.Numbered.{PairsFrom}
 
--- one item goes from the end of a list to the end of another
-pub last_over : {A B : Type 0} (f : A → B) (there : List B) (all rest : List A) (last : A) → all ≡ rest ++ last ∷ [] → (there ++ f last ∷ []) ++ reverse (map f rest) ≡ there ++ reverse (map f all)
-last_over f there all rest last is =
-    append_assoc there (f last ∷ []) (reverse (map f rest))
-    ∙ ap (λ l. there ++ l) (sym (ap (λ l. reverse (map f l)) is ∙ (ap reverse (map-append f rest (last ∷ [])) ∙ reverse-append (map f rest) (f last ∷ []))))
+-- turned round, the last item comes first
+last_first : {A B : Type 0} (f : A → B) (all rest : List A) (last : A) → all ≡ rest ++ last ∷ [] → reverse (map f all) ≡ f last ∷ reverse (map f rest)
+last_first f all rest last is = ap (λ l. reverse (map f l)) is ∙ (ap reverse (map-append f rest (last ∷ [])) ∙ reverse-append (map f rest) (f last ∷ []))
+
+-- it goes from the end of a list behind others, which leaves the whole as it was
+pub last_over : {A B C : Type 0} (f : A → B) (g : B → C) (there now whole : List C) (all rest : List A) (last : A) (it : B) → all ≡ rest ++ last ∷ [] → it ≡ f last → now ≡ there ++ g it ∷ [] → there ++ map g (reverse (map f all)) ≡ whole
+    → now ++ map g (reverse (map f rest)) ≡ whole
+last_over f g there now whole all rest last it is of now_is was =
+    ap (λ l. l ++ map g (reverse (map f rest))) (now_is ∙ ap (λ b. there ++ g b ∷ []) of)
+    ∙ (append_assoc there (g (f last) ∷ []) (map g (reverse (map f rest))) ∙ (ap (λ l. there ++ map g l) (sym (last_first f all rest last is)) ∙ was))
 
 pub map_reverse : {A B : Type 0} (f : A → B) (xs : List A) → map f (reverse xs) ≡ reverse (map f xs)
 map_reverse f [] = refl
@@ -17,16 +22,9 @@ map_reverse f (x ∷ xs) =
     ap (map f) (reverse-append (x ∷ []) xs)
     ∙ (map-append f (reverse xs) (x ∷ []) ∙ (ap (λ l. l ++ f x ∷ []) (map_reverse f xs) ∙ sym (reverse-append (f x ∷ []) (map f xs))))
 
-pub map_turned : {A B : Type 0} (f : A → B) (xs turned : List A) → turned ≡ reverse xs → map f turned ≡ reverse (map f xs)
-map_turned f xs turned is = ap (map f) is ∙ map_reverse f xs
-
--- items that were turned round come out in their order, behind another
-pub turned_out : {A B : Type 0} (f : A → B) (room pushed out : List B) (value : B) (taken front : A) (all turned : List A) → room ≡ [] → value ≡ f taken → taken ≡ front → pushed ≡ room ++ value ∷ [] → turned ≡ reverse all
-    → out ≡ pushed ++ reverse (map f turned) → out ≡ f front ∷ map f all
-turned_out f room pushed out value taken front all turned none of same push turn is =
-    is
-    ∙ (ap₂ (λ p t. p ++ reverse (map f t)) (push ∙ ap₂ (λ l v. l ++ v ∷ []) none (of ∙ ap f same)) turn
-    ∙ ap (λ l. f front ∷ l) (ap reverse (map_reverse f all) ∙ reverse-reverse (map f all)))
+-- turned round twice, they stand in their order
+pub turned_back : {A B : Type 0} (f : A → B) (xs turned : List A) → turned ≡ reverse xs → reverse (map f turned) ≡ map f xs
+turned_back f xs turned is = ap (λ l. reverse (map f l)) is ∙ (ap reverse (map_reverse f xs) ∙ reverse-reverse (map f xs))
 
 -- the item behind the first
 pub get_next : {A : Type 0} (x : A) (xs : List A) (i : ℕ) (d : A) → get_or (x ∷ xs) (i + 1) d ≡ get_or xs i d

@@ -1,203 +1,162 @@
 -- What a shop offered, the disks that it gave told; and what follows of it.
-use Rattle.std.proofs.Common.{◌≡◌, ℕ, zero, suc, ◌+◌, ◌<◌, ◌≤◌, true, List, [], ◌∷◌, length, map, get_or, refl, sym, ap, ◌∙◌, subst, arith}
-use mathlib.Core.Bool.{true≢false}
-use Rattle.std.specs.Prelude.{Result, Ok, Err, IfOk, IfErr, Option, None, Some, IfSome, is_some, slice_get}
-use Rattle.std.proofs.Math.Logic.{∥∥₁_map}
+use Rattle.std.proofs.Common.{◌≡◌, ℕ, zero, suc, ◌+◌, ◌<◌, ◌≤◌, true, List, [], ◌∷◌, length, map, get_or, refl, ap, ◌∙◌, subst, arith}
+use Rattle.std.specs.Prelude.{Bool, false, if◌then◌else◌, Result, Ok, Err, IfOk, IfErr, Option, Some, is_some}
+use Rattle.std.specs.Result.{IsErrAnd}
+use Rattle.std.proofs.Math.Logic.{∥∥₁_elim, ∥∥₁_prop}
 use Rattle.std.proofs.lemmas.List.{length-reverse}
-use Rattle.std.proofs.lemmas.Option.{slice_get_within}
-use Rattle.qc_config.specs.declared.tuple.Tuple.{Tuple}
 use Rattle.qc_disk.specs.Disk.{DiskView}
 use Rattle.qc_disk.specs.Shop.{Tells}
 use Rattle.qc_event.specs.declared.table.Table.{Table}
 use Rattle.qc_event.specs.History.{limit}
-use Rattle.qc_event.specs.Seats.{ledger_seat}
 use Rattle.qc_event.specs.Tables.{base_of, setting_of}
-use Rattle.qc_opening.specs.Disks.{AreCounted, AreOffered}
+use Rattle.qc_opening.specs.Disks.{all_places, by_place, told_by, AreCounted, AreOffered}
 use Rattle.qc_opening.specs.Images.{Offers}
-use Rattle.qc_opening.specs.Numbered.{EachFrom, PairsFrom}
+use Rattle.qc_opening.specs.Numbered.{EachFrom}
+use Rattle.qc_opening.specs.Pairs.{of_active, of_other, HaveNoGrantsInPairs, MountedInPairs}
+use Rattle.qc_opening.specs.Parts.{counted_by}
 use Rattle.qc_opening.specs.Refusing.{disks_in, reason_in, AreLeft}
+use Rattle.qc_opening.specs.Stored.{disks_of, past_of, returned, AllTell, AreImages, HasKept, HasRun, HavePaid, WasMounted}
 use Rattle.qc_opening.specs.declared.mount_no.MountNo.{MountNo}
-use Rattle.qc_desk.specs.Entries.{entries_of}
-use Rattle.qc_refine.specs.Images.{IsStandingWithin, Restores}
-use Rattle.qc_script.specs.Plan.{ScriptPlan}
-use Rattle.qc_opening.specs.Mountings.{HaveNoGrants, IsMounted}
-use Rattle.qc_opening.proofs.KeptDisks.KeptImages.{images_kept}
-use Rattle.qc_opening.proofs.KeptDisks.Restarts.{first_start, restores}
-use Rattle.qc_opening.proofs.KeptDisks.Stands.{stand}
-use Rattle.qc_system.specs.Closing.{AllKeep, CopyKeeps, DiskKeeps, LedgerKeeps}
-use Rattle.qc_system.specs.Kept.{Pays, downs}
-use Rattle.qc_system.specs.Parts.{Findings}
-use Rattle.qc_opening.specs.Parts.{counted_by, told_by}
-use Rattle.qc_opening.specs.Stored.{disks_of, past_of, returned, AllTell, AreImages, HasKept, HasRun, HavePaid}
 use Rattle.qc_opening.specs.declared.stored.Stored.{Stored}
 use Rattle.qc_opening.proofs.Epochs.{of_epoch}
-use Rattle.qc_opening.proofs.Unboxed.{left_length}
-
--- disks tell at least what was told otherwise of a table's
-abbrev pub TellAsMuch : Table → (ℕ → Option (List ℕ)) → (ℕ → Option (List ℕ)) → Type 0
-TellAsMuch table other told = (number : ℕ) → number ≤ table.copies → Tells (other number) (told number)
-
--- what holds of what is told holds of what was told otherwise
-fine_too : (P : List ℕ → Type 0) (other told : Option (List ℕ)) → Tells other told → IfSome told P → IfSome other P
-fine_too P None told tells has = tt
-fine_too P (Some bytes) told tells has = subst (λ o. IfSome o P) tells has
-
-some_too : (other told : Option (List ℕ)) → Tells other told → is_some other ≡ true → is_some told ≡ true
-some_too None told tells some = absurd (true≢false (sym some))
-some_too (Some bytes) told tells some = ap is_some tells
-
--- the mounting of disks that told more
-pub mounted_otherwise : (table : Table) (other told : ℕ → Option (List ℕ)) (records : ℕ → List (List ℕ)) (epoch : ℕ) (base : List (List Tuple)) → TellAsMuch table other told → IsMounted table told records epoch base → IsMounted table other records epoch base
-mounted_otherwise table other told records epoch base tells m = record {
-  past = m.past;
-  limit = m.limit;
-  proper = m.proper;
-  small = m.small;
-  bytes = m.bytes;
-  ledger =
-      let l = m.ledger in
-      record { found = l.found; ledgers = l.ledgers; fine = fine_too _ (other 0) (told 0) (tells 0 (omega arith)) l.fine; past_is = l.past_is; next = l.next; all = l.all };
-  copies = λ copy there.
-      let c = m.copies copy there in
-      record { found = c.found; granted = c.granted; fine = fine_too _ (other (copy + 1)) (told (copy + 1)) (tells (copy + 1) (omega (arith, there))) c.fine; all = c.all };
-  as_many = m.as_many;
-  starts = m.starts;
-}
+use Rattle.qc_opening.proofs.KeptDisks.KeptPairs.ImagesKept.{images_kept}
+use Rattle.qc_opening.proofs.KeptDisks.KeptPairs.NextMounting.{first_start, restores}
+use Rattle.qc_opening.proofs.KeptDisks.KeptPairs.PairsStand.{kept_left, stand}
+use Rattle.qc_opening.proofs.KeptOtherwise.{keep_otherwise}
+use Rattle.qc_opening.proofs.KeptPlaces.{disks_many}
+use Rattle.qc_opening.proofs.Otherwise.{active_tells, mounted_otherwise, other_tells, others_otherwise, some_too, TellAsMuch}
+use Rattle.qc_opening.proofs.Mountings.Refused.{left_length}
+use Rattle.qc_refine.specs.Pairs.{RestoreInPairs, StandInPairsWithin}
+use Rattle.qc_script.specs.Plan.{ScriptPlan}
+use Rattle.qc_desk.specs.Entries.{entries_of}
+use Rattle.qc_system.specs.Kept.{Pays, downs}
 
 -- WHAT A SHOP OFFERED
 
--- from a number on
-offered_from : {D : Type 0} (view : D → DiskView) (offers : ℕ → Option (List ℕ)) (number : ℕ) (disks : List D) → AreOffered view offers number disks → (i : ℕ) → i < length disks → Tells (offers (number + i)) (told_by (map (λ d. (view d).content) disks) i)
-offered_from view offers number [] offered i low = absurd (omega (arith, low))
-offered_from view offers number (d ∷ disks) offered zero low = subst (λ n. Tells (offers n) (view d).content) (omega arith) offered.0
-offered_from view offers number (d ∷ disks) offered (suc i) low =
-    subst (λ n. Tells (offers n) (told_by (map (λ x. (view x).content) disks) i)) (omega arith) (offered_from view offers (number + 1) disks offered.1 i (omega (arith, low)))
+-- from a place on
+offered_from : {D : Type 0} (view : D → DiskView) (offers : ℕ → Option (List ℕ)) (place : ℕ) (disks : List D) → AreOffered view offers place disks → (i : ℕ) → i < length disks → Tells (offers (place + i)) (told_by (map (λ d. (view d).content) disks) i)
+offered_from view offers place [] offered i low = absurd (omega (arith, low))
+offered_from view offers place (d ∷ disks) offered zero low = subst (λ n. Tells (offers n) (view d).content) (omega arith) offered.0
+offered_from view offers place (d ∷ disks) offered (suc i) low =
+    subst (λ n. Tells (offers n) (told_by (map (λ x. (view x).content) disks) i)) (omega arith) (offered_from view offers (place + 1) disks offered.1 i (omega (arith, low)))
 
-pub tell_offered : {D : Type 0} (view : D → DiskView) (table : Table) (offers : ℕ → Option (List ℕ)) (disks : List D) → AreOffered view offers 0 disks → length disks ≡ table.copies + 1 → TellAsMuch table offers (told_by (map (λ d. (view d).content) disks))
-tell_offered view table offers disks offered all number low = subst (λ n. Tells (offers n) (told_by (map (λ d. (view d).content) disks) number)) (omega arith) (offered_from view offers 0 disks offered number (omega (arith, low, all)))
+pub tell_offered : {D : Type 0} (view : D → DiskView) (table : Table) (offers : ℕ → Option (List ℕ)) (disks : List D) → AreOffered view offers 0 disks → length disks ≡ all_places table.copies → TellAsMuch table offers (told_by (map (λ d. (view d).content) disks))
+tell_offered view table offers disks offered all place low = subst (λ n. Tells (offers n) (told_by (map (λ d. (view d).content) disks) place)) (omega arith) (offered_from view offers 0 disks offered place (omega (arith, low, all)))
 
--- as often as it told, from a number on
-counted_from : {D : Type 0} (view : D → DiskView) (counts : ℕ → ℕ) (number : ℕ) (disks : List D) → AreCounted view counts number disks → (i : ℕ) → i < length disks → counted_by (map (λ d. (view d).faults) disks) i ≡ counts (number + i)
-counted_from view counts number [] counted i low = absurd (omega (arith, low))
-counted_from view counts number (d ∷ disks) counted zero low = subst (λ n. (view d).faults ≡ counts n) (omega arith) counted.0
-counted_from view counts number (d ∷ disks) counted (suc i) low =
-    subst (λ n. counted_by (map (λ x. (view x).faults) disks) i ≡ counts n) (omega arith) (counted_from view counts (number + 1) disks counted.1 i (omega (arith, low)))
+-- as often as it told, from a place on
+counted_from : {D : Type 0} (view : D → DiskView) (counts : ℕ → ℕ) (place : ℕ) (disks : List D) → AreCounted view counts place disks → (i : ℕ) → i < length disks → counted_by (map (λ d. (view d).faults) disks) i ≡ counts (place + i)
+counted_from view counts place [] counted i low = absurd (omega (arith, low))
+counted_from view counts place (d ∷ disks) counted zero low = subst (λ n. (view d).faults ≡ counts n) (omega arith) counted.0
+counted_from view counts place (d ∷ disks) counted (suc i) low =
+    subst (λ n. counted_by (map (λ x. (view x).faults) disks) i ≡ counts n) (omega arith) (counted_from view counts (place + 1) disks counted.1 i (omega (arith, low)))
 
-image_offered : (offers : ℕ → Option (List ℕ)) (number : ℕ) (images : List (List ℕ)) → EachFrom (λ n image. offers n ≡ Some image) number images → (i : ℕ) → i < length images → offers (number + i) ≡ Some (get_or images i [])
-image_offered offers number [] each i low = absurd (omega (arith, low))
-image_offered offers number (image ∷ images) each zero low = subst (λ n. offers n ≡ Some image) (omega arith) each.0
-image_offered offers number (image ∷ images) each (suc i) low = subst (λ n. offers n ≡ Some (get_or images i [])) (omega arith) (image_offered offers (number + 1) images each.1 i (omega (arith, low)))
+pub counted_at : {D : Type 0} (view : D → DiskView) (table : Table) (counts : ℕ → ℕ) (disks : List D) → AreCounted view counts 0 disks → length disks ≡ all_places table.copies → (place : ℕ) → place < all_places table.copies → counted_by (map (λ d. (view d).faults) disks) place ≡ counts place
+counted_at view table counts disks counted all place low = subst (λ n. counted_by (map (λ d. (view d).faults) disks) place ≡ counts n) (omega arith) (counted_from view counts 0 disks counted place (omega (arith, low, all)))
 
-image_at : (offers : ℕ → Option (List ℕ)) (images : List (List ℕ)) → Offers offers images → (i : ℕ) → i < length images → offers i ≡ Some (get_or images i [])
-image_at offers images each i low = subst (λ n. offers n ≡ Some (get_or images i [])) (omega arith) (image_offered offers 0 images each i low)
+image_offered : (offers : ℕ → Option (List ℕ)) (place : ℕ) (images : List (List ℕ)) → EachFrom (λ n image. offers n ≡ Some image) place images → (i : ℕ) → i < length images → offers (place + i) ≡ Some (get_or images i [])
+image_offered offers place [] each i low = absurd (omega (arith, low))
+image_offered offers place (image ∷ images) each zero low = subst (λ n. offers n ≡ Some image) (omega arith) each.0
+image_offered offers place (image ∷ images) each (suc i) low = subst (λ n. offers n ≡ Some (get_or images i [])) (omega arith) (image_offered offers (place + 1) images each.1 i (omega (arith, low)))
 
+-- an offer that is this image
 tells_image : (offer told : Option (List ℕ)) (image : List ℕ) → offer ≡ Some image → Tells offer told → Tells (Some image) told
 tells_image offer told image is tells = subst (λ o. Tells o told) is tells
 
+-- disks that tell at least what was offered tell images that were
+tell_images : (table : Table) (offers : ℕ → Option (List ℕ)) (told : ℕ → Option (List ℕ)) (images : List (List ℕ)) → Offers table offers images → TellAsMuch table (by_place table.copies offers) told → TellAsMuch table (λ place. Some (get_or images place [])) told
+tell_images table offers told images offered tells place low =
+    tells_image (by_place table.copies offers place) (told place) (get_or images place [])
+    (subst (λ n. by_place table.copies offers n ≡ Some (get_or images place [])) (omega arith) (image_offered (by_place table.copies offers) 0 images offered.each place (omega (arith, low, offered.all))))
+    (tells place low)
+
 -- THE MOUNTING
 
-module _ {D : Type 0} (view : D → DiskView) (plan : ScriptPlan) (most : ℕ) (told offers : ℕ → Option (List ℕ)) (counts : ℕ → ℕ) (tells : TellAsMuch plan.table offers told) (stored : Stored D) (run : HasRun view plan most told counts stored) where
-  mounted : IsMounted plan.table offers run.kept.records stored.epoch stored.ended.start
-  mounted = mounted_otherwise plan.table offers told run.kept.records stored.epoch stored.ended.start tells run.kept.mounted
+module _ {D : Type 0} (view : D → DiskView) (plan : ScriptPlan) (most : ℕ) (told : ℕ → Option (List ℕ)) (counts : ℕ → ℕ) (stored : Stored D) (run : HasRun view plan most told counts stored) where
+  pub restored : (offers : ℕ → Option (List ℕ)) → TellAsMuch plan.table (by_place plan.table.copies offers) told → (images : List (List ℕ)) → Offers plan.table offers images → RestoreInPairs plan.table images stored.ended.start
+  restored offers tells images offered =
+      restores plan.table images run.kept.records stored.epoch stored.ended.start
+      (mounted_otherwise plan.table (λ place. Some (get_or images place [])) told run.kept.records stored.epoch stored.ended.start (tell_images plan.table offers told images offered tells) run.kept.mounted)
+      offered.all
 
-  pub restored : (images : List (List ℕ)) → Offers offers images → length images ≡ plan.table.copies + 1 → Restores plan.table images stored.ended.start
-  restored images offered as_many =
-      restores (λ place. place) plan.table images run.kept.records stored.epoch stored.ended.start
-      (mounted_otherwise plan.table (λ number. Some (get_or images number [])) told run.kept.records stored.epoch stored.ended.start
-      (λ number low. tells_image (offers number) (told number) (get_or images number []) (image_at offers images offered number (omega (arith, low, as_many))) (tells number low)) run.kept.mounted)
-      as_many
+  module _ (offers : ℕ → Option (List ℕ)) (tells : TellAsMuch plan.table offers told) where
+    mounted : MountedInPairs plan.table offers run.kept.records stored.epoch stored.ended.start
+    mounted = mounted_otherwise plan.table offers told run.kept.records stored.epoch stored.ended.start tells run.kept.mounted
 
-  pub first : HaveNoGrants plan.table offers → stored.ended.start ≡ base_of plan.table
-  first none = first_start (λ place. place) plan.table offers run.kept.records stored.epoch stored.ended.start mounted none
+    pub first : HaveNoGrantsInPairs plan.table offers → stored.ended.start ≡ base_of plan.table
+    first none = first_start plan.table offers run.kept.records stored.epoch stored.ended.start mounted none
 
-  -- KEEPING
+    -- KEEPING
 
-  abbrev found : (ℕ → Option (List ℕ)) → Findings
-  found by = record { base = stored.ended.start; told = λ number. is_some (by number); before = run.kept.records; first = λ number. view (run.kept.firsts number); limit = most }
+    active_too : (pair : ℕ) → pair ≤ plan.table.copies → is_some (of_active plan.table run.kept.mounted.swapped offers pair) ≡ true → is_some (of_active plan.table run.kept.mounted.swapped told pair) ≡ true
+    active_too pair low = some_too (of_active plan.table run.kept.mounted.swapped offers pair) (of_active plan.table run.kept.mounted.swapped told pair) (active_tells plan.table offers told tells run.kept.mounted.swapped pair low)
 
-  pub kept : HasKept view plan.table most offers stored
-  kept = record {
-    records = run.kept.records;
-    firsts = run.kept.firsts;
-    mounted = mounted;
-    was = λ number low.
-        let w = run.kept.was number low in
-        let too : is_some (offers number) ≡ true → is_some (told number) ≡ true = λ some. some_too (offers number) (told number) (tells number low) some in
-        record { tells = λ some. w.tells (too some); had = λ some. w.had (too some) };
-    kept = record {
-      many = all.many;
-      ledger = ledger all.ledger;
-      copies = λ copy there. copy_kept copy there (all.copies copy there);
-    };
-  }
-    where
-      all : AllKeep (setting_of plan.table stored.ended.start) (found told) view stored.ended.disks.items (past_of stored)
-      all = run.kept.kept
+    other_too : (pair : ℕ) → pair ≤ plan.table.copies → is_some (of_other plan.table run.kept.mounted.swapped offers pair) ≡ true → is_some (of_other plan.table run.kept.mounted.swapped told pair) ≡ true
+    other_too pair low = some_too (of_other plan.table run.kept.mounted.swapped offers pair) (of_other plan.table run.kept.mounted.swapped told pair) (other_tells plan.table offers told tells run.kept.mounted.swapped pair low)
 
-      ledger : DiskKeeps (setting_of plan.table stored.ended.start) (found told) view stored.ended.disks.items 0 (LedgerKeeps (setting_of plan.table stored.ended.start) (found told)) (past_of stored)
-          → DiskKeeps (setting_of plan.table stored.ended.start) (found offers) view stored.ended.disks.items 0 (LedgerKeeps (setting_of plan.table stored.ended.start) (found offers)) (past_of stored)
-      ledger d = record {
-        disk = d.disk;
-        there = d.there;
-        kept = record {
-          kept = ∥∥₁_map d.kept.kept (λ keeps some. keeps (some_too (offers 0) (told 0) (tells 0 (omega arith)) some));
-          grown = ∥∥₁_map d.kept.grown (λ grown some. grown (some_too (offers 0) (told 0) (tells 0 (omega arith)) some));
-          paid = d.kept.paid;
-          full = λ some. d.kept.full (some_too (offers 0) (told 0) (tells 0 (omega arith)) some);
-        };
-      }
+    -- a disk of which less was told
+    was_too : (disk : D) (records : List (List ℕ)) (less more : Option (List ℕ)) → (is_some less ≡ true → is_some more ≡ true) → WasMounted view disk records more → WasMounted view disk records less
+    was_too disk records less more too was = record { tells = λ some. was.tells (too some); had = λ some. was.had (too some) }
 
-      copy_kept : (copy : ℕ) → copy < length stored.ended.start → DiskKeeps (setting_of plan.table stored.ended.start) (found told) view stored.ended.disks.items (copy + 1) (CopyKeeps (setting_of plan.table stored.ended.start) (found told) copy) (past_of stored)
-          → DiskKeeps (setting_of plan.table stored.ended.start) (found offers) view stored.ended.disks.items (copy + 1) (CopyKeeps (setting_of plan.table stored.ended.start) (found offers) copy) (past_of stored)
-      copy_kept copy there d = record {
-        disk = d.disk;
-        there = d.there;
-        kept = record {
-          kept = ∥∥₁_map d.kept.kept (λ keeps some. keeps (some_too (offers (copy + 1)) (told (copy + 1)) (tells (copy + 1) (omega (arith, there, run.kept.mounted.as_many))) some));
-          grown = ∥∥₁_map d.kept.grown (λ grown some. grown (some_too (offers (copy + 1)) (told (copy + 1)) (tells (copy + 1) (omega (arith, there, run.kept.mounted.as_many))) some));
-          paid = d.kept.paid;
-          full = ∥∥₁_map d.kept.full (λ full some. full (some_too (offers (copy + 1)) (told (copy + 1)) (tells (copy + 1) (omega (arith, there, run.kept.mounted.as_many))) some));
-          plain = λ some. d.kept.plain (some_too (offers (copy + 1)) (told (copy + 1)) (tells (copy + 1) (omega (arith, there, run.kept.mounted.as_many))) some);
-        };
-      }
+    pub kept : HasKept view plan.table most offers stored
+    unfolding mounted mounted_otherwise
+    kept =
+        let k = run.kept in
+        let many = k.mounted.mounted.as_many in
+        record {
+          records = k.records;
+          others = k.others;
+          firsts = k.firsts;
+          other_firsts = k.other_firsts;
+          mounted = mounted;
+          others_are = others_otherwise plan.table offers told k.records stored.epoch stored.ended.start tells k.mounted k.others k.others_are;
+          was = λ pair low. was_too (k.firsts pair) (k.records pair) (of_active plan.table k.mounted.swapped offers pair) (of_active plan.table k.mounted.swapped told pair) (active_too pair low) (k.was pair low);
+          other_was = λ pair low. was_too (k.other_firsts pair) (k.others pair) (of_other plan.table k.mounted.swapped offers pair) (of_other plan.table k.mounted.swapped told pair) (other_too pair low) (k.other_was pair low);
+          kept = keep_otherwise (setting_of plan.table stored.ended.start) k.mounted.swapped most k.records (λ pair. view (k.firsts pair)) (λ pair. view (k.other_firsts pair))
+              (λ pair. is_some (of_active plan.table k.mounted.swapped told pair)) (λ pair. is_some (of_active plan.table k.mounted.swapped offers pair))
+              (λ pair. is_some (of_other plan.table k.mounted.swapped told pair)) (λ pair. is_some (of_other plan.table k.mounted.swapped offers pair)) k.others k.others
+              (λ pair low. active_too pair (omega (arith, low, many))) (λ pair low. other_too pair (omega (arith, low, many))) (λ pair low some. refl)
+              view stored.ended.disks.items (past_of stored) k.kept;
+        }
 
-  -- STANDING
+    -- STANDING
 
-  -- one of each disk's images
-  image_of : (number : ℕ) (disks : List D) (images : List (List ℕ)) → PairsFrom (λ n disk image. (view disk).may_leave image) number disks images → (i : ℕ) (disk : D) → slice_get disks i ≡ Some disk → (view disk).may_leave (get_or images i [])
-  image_of number [] images pairs i disk is = absurd cc
-  image_of number (d ∷ disks) [] pairs i disk is = absurd pairs
-  image_of number (d ∷ disks) (image ∷ images) pairs zero disk is = let same : d ≡ disk = cc in subst (λ x. (view x).may_leave image) same pairs.0
-  image_of number (d ∷ disks) (image ∷ images) pairs (suc i) disk is = image_of (number + 1) disks images pairs.1 i disk is
+    pub stands : AllTell plan.table.copies offers → (images : List (List ℕ)) → AreImages view stored.ended.disks.items images → ∥ StandInPairsWithin 1 plan.table stored.ended.start stored.epoch (past_of stored) images ∥₁
+    stands all_tell images left =
+        let k = run.kept in
+        ∥∥₁_elim
+        (images_kept view plan.table told k.records stored.epoch stored.ended.start k.mounted k.others k.others_are most (λ pair. view (k.firsts pair)) (λ pair. view (k.other_firsts pair)) stored.ended.disks.items (past_of stored) k.kept
+        (λ place low. some_too (offers place) (told place) (tells place low) (all_tell place low)) images left)
+        ∥∥₁_prop
+        (λ kept. stand plan.table told k.records stored.epoch stored.ended.start k.mounted (past_of stored) images run.legal bounded (of_epoch stored.epoch (past_of stored) bounded run.begins.numbers)
+        (kept_left plan.table told k.records stored.epoch stored.ended.start k.mounted (past_of stored) images kept))
+      where
+        bounded : length (past_of stored) ≤ limit
+        bounded = omega (arith, run.bounded, length-reverse stored.ended.trail)
 
-  as_many_images : (number : ℕ) (disks : List D) (images : List (List ℕ)) → PairsFrom (λ n disk image. (view disk).may_leave image) number disks images → length images ≡ length disks
-  as_many_images number [] [] pairs = refl
-  as_many_images number [] (image ∷ images) pairs = absurd pairs
-  as_many_images number (d ∷ disks) [] pairs = absurd pairs
-  as_many_images number (d ∷ disks) (image ∷ images) pairs = ap suc (as_many_images (number + 1) disks images pairs.1)
-
-  pub stands : AllTell plan.table.copies offers → (images : List (List ℕ)) → AreImages view stored.ended.disks.items images → ∥ IsStandingWithin 1 plan.table stored.ended.start stored.epoch (past_of stored) images ∥₁
-  stands all_tell images left =
-      stand (λ place. place) plan.table told run.kept.records stored.epoch stored.ended.start run.kept.mounted (past_of stored) images run.legal bounded (of_epoch stored.epoch (past_of stored) bounded run.begins.numbers)
-      (images_kept plan.table (found told) view stored.ended.disks.items (past_of stored) images run.kept.kept run.kept.mounted.as_many
-      (omega (arith, as_many_images 0 stored.ended.disks.items images left, run.kept.kept.many, run.kept.mounted.as_many))
-      (λ number low. some_too (offers number) (told number) (tells number low) (all_tell number low))
-      (λ number disk there. image_of 0 stored.ended.disks.items images left number disk there))
-    where
-      bounded : length (past_of stored) ≤ limit
-      bounded = omega (arith, run.bounded, length-reverse stored.ended.trail)
-
--- what disks have counted since they were given, they have since the shop told of them
-pub paid : {D : Type 0} (view : D → DiskView) (plan : ScriptPlan) (most : ℕ) (told : ℕ → Option (List ℕ)) (counts : ℕ → ℕ) (given : List D) (stored : Stored D) → AreCounted view counts 0 given → length given ≡ plan.table.copies + 1
-    → HasRun view plan most told (counted_by (map (λ d. (view d).faults) given)) stored → HavePaid view counts (disks_of stored) (past_of stored)
-paid view plan most told counts given stored counted all run number disk is =
-    let within = slice_get_within stored.ended.disks.items number disk is in
-    let low : number < length given = omega (arith, within, all, run.kept.kept.many, run.kept.mounted.as_many) in
-    let same : counted_by (map (λ d. (view d).faults) given) number ≡ counts number = subst (λ n. counted_by (map (λ d. (view d).faults) given) number ≡ counts n) (omega arith) (counted_from view counts 0 given counted number low) in
-    subst (λ n. Pays n (downs (entries_of (number + 1) (past_of stored))) (view disk).faults) same (run.paid number disk is)
+    -- what disks have counted since they were given, they have since the shop told of them
+    pub paid : (shop : ℕ → ℕ) → ((place : ℕ) → place < all_places plan.table.copies → counts place ≡ shop place) → HavePaid view plan.table offers shop stored.epoch stored.ended.start (disks_of stored) (past_of stored)
+    unfolding mounted_otherwise
+    paid shop same =
+        let p = run.paid in
+        record {
+          records = p.records;
+          mounted = mounted_otherwise plan.table offers told p.records stored.epoch stored.ended.start tells p.mounted;
+          paid = λ pair disk low is.
+              subst (λ n. Pays n (downs (entries_of (pair + 1) (past_of stored))) (view disk).faults)
+              (one_counted (p.mounted.swapped pair) (same pair (omega (arith, low))) (same (plan.table.copies + 1 + pair) (omega (arith, low)))) (p.paid pair disk low is);
+        }
+      where
+        one_counted : {own spare own' spare' : ℕ} (is_spare : Bool) → own ≡ own' → spare ≡ spare' → (if is_spare then spare else own) ≡ (if is_spare then spare' else own')
+        one_counted true is is_too = is_too
+        one_counted false is is_too = is
 
 -- whatever the answer, all disks are handed back
-pub all_returned : {D : Type 0} (view : D → DiskView) (plan : ScriptPlan) (most : ℕ) (told : ℕ → Option (List ℕ)) (counts : ℕ → ℕ) (disks : List D) (answer : Result (Stored D) (MountNo D)) → length disks ≡ plan.table.copies + 1 → IfOk answer (HasRun view plan most told counts)
-    → IfErr answer (λ refused. AreLeft view plan.table (reason_in refused) 0 disks (disks_in refused)) → returned answer ≡ plan.table.copies + 1
-all_returned view plan most told counts disks (Ok stored) all ran left = omega (arith, ran.kept.kept.many, ran.kept.mounted.as_many)
-all_returned view plan most told counts disks (Err refused) all ran left = left_length view plan.table refused disks (disks_in refused) left ∙ all
+pub all_returned : {D : Type 0} (view : D → DiskView) (plan : ScriptPlan) (most : ℕ) (told : ℕ → Option (List ℕ)) (counts : ℕ → ℕ) (disks : List D) (answer : Result (Stored D) (MountNo D)) → length disks ≡ all_places plan.table.copies → IfOk answer (HasRun view plan most told counts)
+    → IfErr answer (λ refused. AreLeft view plan.table (reason_in refused) disks (disks_in refused)) → returned answer ≡ all_places plan.table.copies
+all_returned view plan most told counts disks (Ok stored) all ran left = disks_many view (setting_of plan.table stored.ended.start) _ plan.table (disks_of stored) (past_of stored) ran.kept.kept ran.kept.mounted.mounted.as_many
+all_returned view plan most told counts disks (Err refused) all ran left = left_length view plan.table (reason_in refused) disks (disks_in refused) left ∙ all
+
+-- those of an error that was handed on are handed back
+pub error_returned : {D : Type 0} (answer : Result (Stored D) (MountNo D)) (refused : MountNo D) → IsErrAnd answer (λ it. it ≡ refused) → returned answer ≡ length (disks_in refused)
+error_returned (Ok stored) refused is = absurd is
+error_returned (Err it) refused is = ap (λ r. length (disks_in r)) is

@@ -1,5 +1,5 @@
 -- What a session left of a store, and what its disks have to do with its history.
-use Rattle.std.specs.Prelude.{ℕ, zero, suc, true, ◌≡◌, ◌+◌, ◌<◌, ◌≤◌, ◌^◌, List, length, reverse, Option, Some, IsSome, is_some, OnOk, IsErrOf, Result, Ok, Err, slice_get}
+use Rattle.std.specs.Prelude.{ℕ, zero, suc, true, ◌≡◌, ◌+◌, ◌<◌, ◌≤◌, ◌^◌, Bool, List, [], length, reverse, Option, Some, IsSome, is_some, OnOk, IsErrOf, Result, Ok, Err, slice_get}
 use Rattle.qc_config.specs.declared.tuple.Tuple.{Tuple}
 use Rattle.qc_disk.specs.Disk.{DiskView}
 use Rattle.qc_event.specs.declared.short.Short.TheVariants.{Room}
@@ -13,13 +13,14 @@ use Rattle.qc_event.specs.Tables.{setting_of}
 use Rattle.qc_interp.specs.FollowsScript.{BeginsScript, FollowsScript}
 use Rattle.qc_journal.specs.Image.{HasRecords}
 use Rattle.qc_ledger.specs.Since.{AreTopsBy}
+use Rattle.qc_opening.specs.Disks.{all_places}
 use Rattle.qc_opening.specs.Numbered.{PairsFrom}
+use Rattle.qc_opening.specs.Pairs.{of_active, of_other, AreOthers, MountedInPairs}
 use Rattle.qc_opening.specs.Refusing.{disks_in}
 use Rattle.qc_opening.specs.declared.mount_no.MountNo.{MountNo}
 use Rattle.qc_desk.specs.Entries.{entries_of}
 use Rattle.qc_script.specs.Plan.{ScriptPlan}
 use Rattle.qc_site.specs.Since.{AreGrantsBy}
-use Rattle.qc_opening.specs.Mountings.{IsMounted}
 use Rattle.qc_system.specs.Closing.{AllKeep}
 use Rattle.qc_system.specs.Grown.{GrownFrom}
 use Rattle.qc_system.specs.Kept.{CopyHadNoRoom, HadNoRoom, NoneStrange, Pays, downs}
@@ -38,58 +39,53 @@ abbrev pub returned : {D : Type 0} → Result (Stored D) (MountNo D) → ℕ
 returned (Ok stored) = length (disks_of stored)
 returned (Err refused) = length (disks_in refused)
 
--- each disk of a store of this table tells its bytes
+-- each disk of a store of so many copies tells its bytes, by their places
 abbrev pub AllTell : ℕ → (ℕ → Option (List ℕ)) → Type 0
-AllTell copies told = (number : ℕ) → number ≤ copies → IsSome (told number)
+AllTell copies told = (place : ℕ) → place < all_places copies → IsSome (told place)
 
--- bodies are those of a run, up to some time: on the ledger's disk of tops, on a copy's of its grants
+-- bodies are those of a run, up to some time: on the ledger's active disk of tops, on a copy's of its grants
 abbrev pub AreOfRun : Setting → ℕ → Past → List (List ℕ) → Type 0
 AreOfRun setting zero past = AreTopsBy (listed past) past
 AreOfRun setting (suc copy) past = AreGrantsBy setting copy past
 
+-- by which spares are active, the place of a pair's active disk, and of the other one
+abbrev pub active_place : Table → (ℕ → Bool) → ℕ → ℕ
+active_place table swapped pair = of_active table swapped (λ place. place) pair
+
+abbrev pub other_place : Table → (ℕ → Bool) → ℕ → ℕ
+other_place table swapped pair = of_other table swapped (λ place. place) pair
+
 -- A store was mounted over disks that told this, for an epoch, with journals up to a limit, and its copies started so. Where the
--- ledger's disk told its bytes, the record of each top that it was unable to log for want of room would have passed the limit,
--- behind those of the mounting and one for each top committed until then. So would that of each request that a copy whose disk
--- told its bytes was unable to serve for want of room, behind those of the mounting and one for each grant until then: at a time
--- when it had made just these, it might have granted the request so. No such copy was strange.
+-- ledger's active disk told its bytes, the record of each top that it was unable to log for want of room would have passed the
+-- limit, behind those of the mounting and one for each top committed until then. So would that of each request that a copy whose
+-- active disk told its bytes was unable to serve for want of room, behind those of the mounting and one for each grant until then: at
+-- a time when it had made just these, it might have granted the request so. No such copy was strange.
 pub record UnablesHadCause (table : Table) (most : ℕ) (told : ℕ → Option (List ℕ)) (epoch : ℕ) (start : List (List Tuple)) (past : Past) : Type 0 where
   pub records : ℕ → List (List ℕ)
-  pub mounted : IsMounted table told records epoch start
-  pub tops : is_some (told 0) ≡ true → HadNoRoom (listed past) (records 0) most (entries_of ledger_seat past)
-  pub full : (copy : ℕ) → copy < length start → is_some (told (copy + 1)) ≡ true
+  pub mounted : MountedInPairs table told records epoch start
+  pub tops : is_some (of_active table mounted.swapped told 0) ≡ true → HadNoRoom (listed past) (records 0) most (entries_of ledger_seat past)
+  pub full : (copy : ℕ) → copy < length start → is_some (of_active table mounted.swapped told (copy + 1)) ≡ true
       → ∥ CopyHadNoRoom (setting_of table start) copy (records (copy + 1)) most past (entries_of (copy_seat copy) past) ∥₁
-  pub plain : (copy : ℕ) → copy < length start → is_some (told (copy + 1)) ≡ true → NoneStrange (entries_of (copy_seat copy) past)
+  pub plain : (copy : ℕ) → copy < length start → is_some (of_active table mounted.swapped told (copy + 1)) ≡ true → NoneStrange (entries_of (copy_seat copy) past)
 
 module _ {D : Type 0} (view : D → DiskView) where
   -- images are of disks, one of each in their order: each is what a crash may leave
   abbrev pub AreImages : List D → List (List ℕ) → Type 0
-  AreImages disks images = PairsFrom (λ number disk image. (view disk).may_leave image) 0 disks images
+  AreImages disks images = PairsFrom (λ place disk image. (view disk).may_leave image) 0 disks images
 
-  -- Each disk counts, since it had counted so many faults, at least as many as the ledger, or the copy, was unable for a failure
-  -- of it, up to the end of the count's range. The seat of disk `n` is `n + 1`.
-  abbrev pub HavePaid : (ℕ → ℕ) → List D → Past → Type 0
-  HavePaid counts disks past = (number : ℕ) (disk : D) → slice_get disks number ≡ Some disk → Pays (counts number) (downs (entries_of (number + 1) past)) (view disk).faults
+  -- A store was mounted over disks that told this, and had counted so many faults. The active disk of each pair counts since at least
+  -- as many as the ledger, or the copy, was unable for a failure of it, up to the end of the count's range. The seat of pair `n` is
+  -- `n + 1`.
+  pub record HavePaid (table : Table) (told : ℕ → Option (List ℕ)) (counts : ℕ → ℕ) (epoch : ℕ) (start : List (List Tuple)) (disks : List D) (past : Past) : Type 0 where
+    pub records : ℕ → List (List ℕ)
+    pub mounted : MountedInPairs table told records epoch start
+    pub paid : (pair : ℕ) (disk : D) → pair ≤ table.copies → slice_get disks (active_place table mounted.swapped pair) ≡ Some disk
+        → Pays (of_active table mounted.swapped counts pair) (downs (entries_of (pair + 1) past)) (view disk).faults
 
   -- A disk as it was when its mounting had ended: where it had told its bytes it told them still, and a crash left these records of it.
   pub record WasMounted (disk : D) (records : List (List ℕ)) (told : Option (List ℕ)) : Type 0 where
     pub tells : is_some told ≡ true → IsSome (view disk).content
     pub had : is_some told ≡ true → (image : List ℕ) → (view disk).may_leave image → HasRecords records image
-
-  -- A store was mounted over disks that told this, with journals up to a limit, and its copies started so; then the disks were the firsts. Each disk that is
-  -- left keeps, where it told its bytes, the records of the mounting, and then what the history tells; and so it did at each
-  -- moment since it was the first.
-  pub record HasKept (table : Table) (most : ℕ) (told : ℕ → Option (List ℕ)) (stored : Stored D) : Type 0 where
-    pub records : ℕ → List (List ℕ)
-    pub firsts : ℕ → D
-    pub mounted : IsMounted table told records stored.epoch stored.ended.start
-    pub was : (number : ℕ) → number ≤ table.copies → WasMounted (firsts number) (records number) (told number)
-    pub kept : AllKeep (setting_of table stored.ended.start) (record {
-      base = stored.ended.start;
-      told = λ number. is_some (told number);
-      before = records;
-      first = λ number. view (firsts number);
-      limit = most;
-    }) view stored.ended.disks.items (reverse stored.ended.trail)
 
   -- A disk has grown since its mounting: the disk as it was then told its bytes, and a crash left these records of it and no others; at each moment before its own a crash left of the disk what it left of that one; at each since, these and behind them some of which this is so; and no record was lost again.
   pub record HasGrown (before : List (List ℕ)) (May : List (List ℕ) → Type 0) (disk : D) : Type 0 where
@@ -98,11 +94,35 @@ module _ {D : Type 0} (view : D → DiskView) where
     pub had : (image : List ℕ) → (view first).may_leave image → HasRecords before image
     pub grown : GrownFrom (view first) before May (view disk)
 
-  -- A store was mounted over disks that told this, for an epoch, and its copies started so. Each disk that told its bytes has grown since by records of the run.
+  -- A store was mounted over disks that told this, for an epoch, and its copies started so. Each active disk that told its bytes has grown since by records of the run, and each other one by none.
   pub record HaveGrown (table : Table) (told : ℕ → Option (List ℕ)) (epoch : ℕ) (start : List (List Tuple)) (disks : List D) (past : Past) : Type 0 where
     pub records : ℕ → List (List ℕ)
-    pub mounted : IsMounted table told records epoch start
-    pub grown : (number : ℕ) (disk : D) → slice_get disks number ≡ Some disk → is_some (told number) ≡ true → ∥ HasGrown (records number) (AreOfRun (setting_of table start) number past) disk ∥₁
+    pub others : ℕ → List (List ℕ)
+    pub mounted : MountedInPairs table told records epoch start
+    pub others_are : AreOthers mounted others
+    pub grown : (pair : ℕ) (disk : D) → pair ≤ table.copies → slice_get disks (active_place table mounted.swapped pair) ≡ Some disk
+        → is_some (of_active table mounted.swapped told pair) ≡ true → ∥ HasGrown (records pair) (AreOfRun (setting_of table start) pair past) disk ∥₁
+    pub kept : (pair : ℕ) (disk : D) → pair ≤ table.copies → slice_get disks (other_place table mounted.swapped pair) ≡ Some disk
+        → is_some (of_other table mounted.swapped told pair) ≡ true → ∥ HasGrown (others pair) (λ more. more ≡ []) disk ∥₁
+
+  -- A store was mounted over disks that told this, with journals up to a limit, and its copies started so; then the disks were the firsts, of each pair the active one and the other one. Each active disk that is
+  -- left keeps, where it told its bytes, the records of the mounting, and then what the history tells; and so it did at each
+  -- moment since it was the first. Each other one keeps what was found on it.
+  pub record HasKept (table : Table) (most : ℕ) (told : ℕ → Option (List ℕ)) (stored : Stored D) : Type 0 where
+    pub records : ℕ → List (List ℕ)
+    pub others : ℕ → List (List ℕ)
+    pub firsts : ℕ → D
+    pub other_firsts : ℕ → D
+    pub mounted : MountedInPairs table told records stored.epoch stored.ended.start
+    pub others_are : AreOthers mounted others
+    pub was : (pair : ℕ) → pair ≤ table.copies → WasMounted (firsts pair) (records pair) (of_active table mounted.swapped told pair)
+    pub other_was : (pair : ℕ) → pair ≤ table.copies → WasMounted (other_firsts pair) (others pair) (of_other table mounted.swapped told pair)
+    pub kept : AllKeep (setting_of table stored.ended.start) (record {
+      swapped = mounted.swapped;
+      active = λ pair. record { told = is_some (of_active table mounted.swapped told pair); before = records pair; first = view (firsts pair) };
+      other = λ pair. record { told = is_some (of_other table mounted.swapped told pair); before = others pair; first = view (other_firsts pair) };
+      limit = most;
+    }) view stored.ended.disks.items (reverse stored.ended.trail)
 
   -- A session ran over a store that was mounted over disks that told this and had counted so many faults, with journals up to a limit: all that is known of what it left.
   pub record HasRun (plan : ScriptPlan) (most : ℕ) (told : ℕ → Option (List ℕ)) (counts : ℕ → ℕ) (stored : Stored D) : Type 0 where
@@ -113,4 +133,4 @@ module _ {D : Type 0} (view : D → DiskView) where
     pub begins : BeginsScript stored.epoch plan.patience plan.sessions (past_of stored)
     pub room : IsErrOf stored.ended.ran Room → length stored.ended.trail ≡ limit
     pub kept : HasKept plan.table most told stored
-    pub paid : HavePaid counts (disks_of stored) (past_of stored)
+    pub paid : HavePaid plan.table told counts stored.epoch stored.ended.start (disks_of stored) (past_of stored)

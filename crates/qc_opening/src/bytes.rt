@@ -12,7 +12,7 @@ fn is_of_bytes(bytes: &[u8])
     let _length = bytes.len();
 }
 
-/// What a mounting asks of the records of each disk in `kept_disks_stand`: that each number of these bodies is a byte. It
+/// What a mounting asks of the records of each disk in `kept_pairs_stand`: that each number of these bodies is a byte. It
 /// does nothing else, in as many steps as there are bodies.
 pub fn are_bytes(bodies: &[Body])
     ensures { AreBytes (bodies_of bodies.now) }

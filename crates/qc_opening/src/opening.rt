@@ -1,23 +1,25 @@
 //! From a shop to what the sessions left.
-ghost use Rattle.std.specs.Prelude.{◌++◌, ℕ, ◌≡◌, ◌+◌, ◌<◌, ◌≤◌, ◌^◌, ◌⊎◌, List, length, IfOk, IfErr, OnOk, IsErrOf};
+ghost use Rattle.std.specs.Prelude.{◌++◌, ℕ, ◌≡◌, ◌≢◌, ◌<◌, ◌≤◌, ◌^◌, ◌⊎◌, All, List, length, IfOk, IfErr, OnOk, IsErrOf};
 ghost use Rattle.qc_codec.specs.Bodies as body;
-ghost use Rattle.qc_disk.specs.Shop.{TellsAlike, first_disks};
+ghost use Rattle.qc_disk.specs.Shop.{TellsAlike, disks_of_place};
 ghost use Rattle.qc_event.specs.declared.short.Short.TheVariants.{Room};
 ghost use Rattle.qc_event.specs.History.{limit as most_entries};
 ghost use Rattle.qc_event.specs.Legal.{Legal};
 ghost use Rattle.qc_event.specs.Tables.{base_of, setting_of};
 ghost use Rattle.qc_interp.specs.FollowsScript.{FollowsScript, BeginsScript};
+ghost use Rattle.qc_opening.specs.Disks.{by_place, first_numbers};
 ghost use Rattle.qc_opening.specs.Images.{AreSound, Offers};
 ghost use Rattle.qc_opening.specs.Obtained.{IsNotGiven};
 ghost use Rattle.qc_opening.specs.Refusing.{ComeBack, IsFaultOf, IsNotMounted};
 ghost use Rattle.qc_opening.specs.Stored.{disks_of, past_of, returned, AllTell, AreImages, HasKept, HaveGrown, HavePaid, UnablesHadCause};
-ghost use Rattle.qc_refine.specs.Images.{IsStandingWithin, Restores};
+ghost use Rattle.qc_refine.specs.Pairs.{RestoreInPairs, StandInPairsWithin};
 ghost use Rattle.qc_script.specs.Reading.{IsProper};
 ghost use Rattle.qc_script.specs.Steps.{plan_of_script};
-ghost use Rattle.qc_opening.specs.Mountings.{HaveNoGrants};
+ghost use Rattle.qc_opening.specs.Pairs.{HaveNoGrantsInPairs};
 
 use crate::mount_no::MountNo;
 use crate::obtaining::obtain_all;
+use crate::rooms::Rooms;
 use crate::running::{known_now, run_disks};
 use crate::stored::Stored;
 use qc_disk::{Disk, Shop};
@@ -27,11 +29,8 @@ use std::alloc::Global;
 use std::sync::Wait;
 use std::thread::Threads;
 
-/// How many disks a store has at most.
-const MOST_DISKS: usize = 17;
-
-/// Mounts the disks of a place, and runs the sessions of a script over them, in threads or in order, each once it has
-/// passed the gate. The epoch is the mounting's. Where the store is not mounted, or memory is wanting before the sessions
+/// Mounts the disks of a place in pairs, and runs the sessions of a script over them, in threads or in order, each once it
+/// has passed the gate. The epoch is the mounting's. Where the store is not mounted, or memory is wanting before the sessions
 /// begin, the disks that were obtained come back.
 pub fn run_stored<R: Threads + Wait + Sync, H: Shop, G: Gate + Sync>(
     rt: &R,
@@ -63,61 +62,68 @@ where
 
     // Where the shop tells the bytes of the disks, it starts from what these restore: from the table's own tuples, where no
     // grant stands on them.
-    ensures restores { (images : List (List ℕ)) → Offers ((H.view shop.old).offers place.now) images
-        → length images ≡ script.now.table.copies + 1
-        → IfOk result (λ stored. Restores script.now.table images stored.ended.start) }
-    ensures first { HaveNoGrants script.now.table ((H.view shop.old).offers place.now)
+    ensures restores { (images : List (List ℕ))
+        → Offers script.now.table ((H.view shop.old).offers place.now) images
+        → IfOk result (λ stored. RestoreInPairs script.now.table images stored.ended.start) }
+    ensures first { HaveNoGrantsInPairs script.now.table
+        (by_place script.now.table.copies ((H.view shop.old).offers place.now))
         → IfOk result (λ stored. stored.ended.start ≡ base_of script.now.table) }
 
-    // Each disk keeps what was found on it, and then what the history tells, where the shop told its bytes. Where it told
-    // those of all, whatever a crash leaves of them stands beside the history. At each moment since a disk was mounted a
-    // crash left the records of then, and behind them those of the run up to some time; and no record was lost again.
-    // Before, it left what it left of the disk as it was then. For each failure of a disk that the history tells, the disk
-    // has counted a fault since the shop gave it. Where a disk told its bytes, each top that the ledger had no room for, and
-    // each grant that a copy had none for, would with its record have passed the limit behind what the disk had then; and
-    // such a copy is never strange.
+    // Of each pair the active disk keeps what was found on it, and then what the history tells, where the shop told its
+    // bytes; the other one keeps what was found on it. Where it told those of all, whatever a crash leaves of them stands
+    // beside the history. At each moment since an active disk was mounted a crash left the records of then, and behind them
+    // those of the run up to some time; and no record was lost again. Before, it left what it left of the disk as it was
+    // then. For each failure of a disk that the history tells, the active disk of the pair has counted a fault since the
+    // shop gave it. Where such a disk told its bytes, each top that the ledger had no room for, and each grant that a copy
+    // had none for, would with its record have passed the limit behind what the disk had then; and such a copy is never
+    // strange.
     ensures kept { IfOk result (HasKept H.D.view script.now.table limit
-        ((H.view shop.old).offers place.now)) }
-    ensures stands { AllTell script.now.table.copies ((H.view shop.old).offers place.now)
+        (by_place script.now.table.copies ((H.view shop.old).offers place.now))) }
+    ensures stands { AllTell script.now.table.copies
+        (by_place script.now.table.copies ((H.view shop.old).offers place.now))
         → IfOk result (λ stored. (images : List (List ℕ))
         → AreImages H.D.view (disks_of stored) images
-        → ∥ IsStandingWithin 1 script.now.table stored.ended.start stored.epoch
+        → ∥ StandInPairsWithin 1 script.now.table stored.ended.start stored.epoch
         (past_of stored) images ∥₁) }
     ensures grown { IfOk result (λ stored. HaveGrown H.D.view script.now.table
-        ((H.view shop.old).offers place.now) stored.epoch stored.ended.start (disks_of stored)
-        (past_of stored)) }
-    ensures paid { IfOk result (λ stored. HavePaid H.D.view ((H.view shop.old).counts place.now)
-        (disks_of stored) (past_of stored)) }
+        (by_place script.now.table.copies ((H.view shop.old).offers place.now)) stored.epoch
+        stored.ended.start (disks_of stored) (past_of stored)) }
+    ensures paid { IfOk result (λ stored. HavePaid H.D.view script.now.table
+        (by_place script.now.table.copies ((H.view shop.old).offers place.now))
+        (by_place script.now.table.copies ((H.view shop.old).counts place.now)) stored.epoch
+        stored.ended.start (disks_of stored) (past_of stored)) }
     ensures unable { IfOk result (λ stored. UnablesHadCause script.now.table limit
-        ((H.view shop.old).offers place.now) stored.epoch stored.ended.start (past_of stored)) }
+        (by_place script.now.table.copies ((H.view shop.old).offers place.now)) stored.epoch
+        stored.ended.start (past_of stored)) }
 
     // Where the shop tells the bytes of all disks, none of them has a fault, or the answer is the first.
-    ensures sound { (images : List (List ℕ)) → Offers ((H.view shop.old).offers place.now) images
-        → length images ≡ script.now.table.copies + 1
+    ensures sound { (images : List (List ℕ))
+        → Offers script.now.table ((H.view shop.old).offers place.now) images
         → OnOk result (AreSound script.now.table limit images) }
-    ensures image { (images : List (List ℕ)) → Offers ((H.view shop.old).offers place.now) images
-        → length images ≡ script.now.table.copies + 1
+    ensures image { (images : List (List ℕ))
+        → Offers script.now.table ((H.view shop.old).offers place.now) images
         → IfErr result (IsFaultOf script.now.table limit images) }
 
     // The shop failed at the next disk, or one of all was refused. The disks come back.
-    ensures refused { IfErr result (λ refused. IsNotGiven (script.now.table.copies + 1)
+    ensures refused { IfErr result (λ refused. IsNotGiven script.now.table.copies
         (H.view shop.old).faults (H.view shop.new).faults refused
         ⊎ IsNotMounted script.now.table.copies refused) }
     ensures disks { IfErr result (ComeBack H.D.view ((H.view shop.old).offers place.now)
         ((H.view shop.old).counts place.now) script.now.table) }
 
     // Those that come back are all that the shop gave, and the shop's count of faults never falls.
-    ensures others { (p : List ℕ) (n : ℕ) → returned result ≤ n
+    ensures others { (p : List ℕ) (n : ℕ)
+        → All (λ which. n ≢ which) (first_numbers script.now.table.copies (returned result))
         → TellsAlike (H.view shop.old) (H.view shop.new) p n }
     ensures gave { (H.view shop.new).gave ≡ (H.view shop.old).gave
-        ++ first_disks place.now (returned result) }
+        ++ disks_of_place place.now (first_numbers script.now.table.copies (returned result)) }
     ensures faults { (H.view shop.old).faults ≤ (H.view shop.new).faults }
 {
     known_now::<H::D>();
-    let Ok(room) = Vec::with_capacity(alloc, MOST_DISKS) else {
+    let Ok(rooms) = Rooms::new(alloc) else {
         let disks = Vec::new(alloc);
         return Err(MountNo::Memory { disks });
     };
-    let disks = obtain_all(alloc, shop, place, script.table.copies + 1)?;
-    run_disks(rt, alloc, disks, room, script, limit, gate, mode)
+    let disks = obtain_all(alloc, shop, place, script.table.copies)?;
+    run_disks(rt, alloc, disks, rooms, script, limit, gate, mode)
 }

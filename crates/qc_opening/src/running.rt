@@ -1,6 +1,5 @@
 //! A session over a store whose disks were obtained.
-ghost use Rattle.std.specs.Prelude.{ℕ, ◌≡◌, ◌<◌, ◌≤◌, ◌+◌, ◌^◌, ◌↔◌, List, [], length, map, reverse, IfOk, IfErr, OnOk, IsErrOf};
-ghost use Rattle.std.specs.Vec.{vec_capacity};
+ghost use Rattle.std.specs.Prelude.{ℕ, ◌≡◌, ◌<◌, ◌≤◌, ◌+◌, ◌^◌, ◌↔◌, List, [], length, vec_capacity, map, reverse, IfOk, IfErr, OnOk, IsErrOf};
 ghost use Rattle.qc_codec.specs.Bodies as body;
 ghost use Rattle.qc_event.specs.declared.short.Short.TheVariants.{Room};
 ghost use Rattle.qc_event.specs.Base.{IsProper as IsProperSetting};
@@ -10,21 +9,24 @@ ghost use Rattle.qc_event.specs.Tables.{setting_of};
 ghost use Rattle.qc_interp.specs.FollowsScript.{FollowsScript, BeginsScript};
 ghost use Rattle.qc_journal.specs.Journal.{limit_of};
 ghost use Rattle.qc_ledger.specs.Mounted as book;
+ghost use Rattle.qc_opening.specs.Disks.{all_places, told_by};
 ghost use Rattle.qc_opening.specs.Images.{AreSound, IsFirstFault};
 ghost use Rattle.qc_opening.specs.Refusing.{disks_in, reason_in, AreLeft, IsReasonAmong, TellImages};
 ghost use Rattle.qc_opening.specs.Boxes.{unboxed};
-ghost use Rattle.qc_opening.specs.Parts.{counted_by, disks_held, told_by, IsStoreOver};
+ghost use Rattle.qc_opening.specs.Parts.{counted_by, disks_held, IsStoreOver};
 ghost use Rattle.qc_opening.specs.Stored.{HasRun};
 ghost use Rattle.qc_script.specs.Reading.{IsProper};
 ghost use Rattle.qc_script.specs.Steps.{plan_of_script};
 ghost use Rattle.qc_system.specs.Closing.{AllKeep};
-ghost use Rattle.qc_system.specs.Parts.{AreMounted, IsFound};
+ghost use Rattle.qc_system.specs.Pairs.{pairs_in};
+ghost use Rattle.qc_system.specs.Parts.{AreMounted, IsLedger};
 
 use crate::boxing::box_all;
 use crate::bytes::are_bytes;
 use crate::mount_no::MountNo;
 use crate::mounting::mount_disks;
 use crate::refusing::{take_apart, unbox_refusal};
+use crate::rooms::Rooms;
 use crate::starting::{blank_over, copies_are_of_bytes};
 use crate::stored::Stored;
 use qc_disk::Disk;
@@ -50,19 +52,11 @@ fn run_named<
     requires setting { IsProperSetting (setting_of N.table N.base) }
     requires proper { IsProper (plan_of_script script.now) }
     requires whole { length N.base ≡ script.now.table.copies }
-    requires none { parts.room.items ≡ [] }
-    requires room { 17 ≤ vec_capacity parts.room }
-    requires ledger { IsFound (N.told 0) (N.before 0) (N.first 0)
-        (book.records_of parts.book) (book.journal_of parts.book) }
-    requires limit { limit_of (book.journal_of parts.book) ≡ N.limit }
+    requires none { (pairs_in parts.returns ≡ []) × (parts.folds.items ≡ []) }
+    requires room { length N.base + 1 ≤ vec_capacity parts.folds }
+    requires ledger { IsLedger N.found parts.ledger }
     requires many { length parts.copies.items ≡ length N.base }
-    requires copies { AreMounted (record {
-      base = N.base;
-      told = N.told;
-      before = N.before;
-      first = N.first;
-      limit = N.limit;
-    }) 0 parts.copies.items }
+    requires copies { AreMounted N.base N.found 0 parts.copies.items }
     ensures start { result.start ≡ N.base }
     ensures legal { Legal (setting_of N.table N.base) (reverse result.trail) }
     ensures bounded { length result.trail ≤ most }
@@ -71,16 +65,11 @@ fn run_named<
     ensures begins { BeginsScript parts.blank.epoch script.now.patience
         (plan_of_script script.now).sessions (reverse result.trail) }
     ensures room { IsErrOf result.ran Room → length result.trail ≡ most }
-    ensures disks { AllKeep (setting_of N.table N.base) (record {
-      base = N.base;
-      told = N.told;
-      before = N.before;
-      first = N.first;
-      limit = N.limit;
-    }) D.view result.disks.items (reverse result.trail) }
+    ensures disks { AllKeep (setting_of N.table N.base) N.found D.view result.disks.items
+        (reverse result.trail) }
 {
-    let (system, first) = System::<D, N>::open(rt, parts);
-    run_sessions(rt, alloc, system, first, script, gate, mode)
+    let (system, others, first) = System::<D, N>::open(rt, parts);
+    run_sessions(rt, alloc, system, others, first, script, gate, mode)
 }
 
 /// It makes the law of disks known for those of a shop: at this moment a disk is what a crash may leave.
@@ -101,7 +90,7 @@ fn run_mounted<R: Threads + Wait + Sync, D: Disk + Drop + Send, G: Gate + Sync>(
     rt: &R,
     alloc: Global,
     parts: crate::Parts<Boxed<D>>,
-    room: Vec<D>,
+    rooms: Rooms<D>,
     script: &Script,
     gate: &G,
     mode: Mode,
@@ -112,41 +101,41 @@ fn run_mounted<R: Threads + Wait + Sync, D: Disk + Drop + Send, G: Gate + Sync>(
     requires store { IsStoreOver script.now.table (map (λ disk. (D.view disk).content) given)
         (map (λ disk. (D.view disk).faults) given) parts }
     requires all { length parts.copies.items ≡ script.now.table.copies }
-    requires none { room.items ≡ [] }
-    requires room { 17 ≤ vec_capacity room }
     ensures ran { IfOk result (HasRun D.view (plan_of_script script.now)
-        (limit_of (book.journal_of parts.book))
+        (limit_of (book.journal_of parts.ledger.book))
         (told_by (map (λ disk. (D.view disk).content) given))
         (counted_by (map (λ disk. (D.view disk).faults) given))) }
     ensures back { IfErr result (λ disks. disks.items ≡ unboxed (disks_held parts)) }
 {
-    are_bytes(parts.book.records());
+    are_bytes(parts.ledger.book.records());
     copies_are_of_bytes(parts.copies.as_slice());
     let epoch = parts.epoch;
     known_range(epoch);
     match blank_over(alloc, parts.copies.as_slice(), epoch) {
         Ok(blank) => {
-            let crate::Parts { book, copies, .. } = parts;
+            let crate::Parts { ledger, copies, .. } = parts;
+            let Rooms { folds, returns, .. } = rooms;
             let parts = Parts {
                 blank,
-                book,
+                ledger,
                 copies,
-                room,
+                folds,
+                returns,
             };
             let ended = run_named::<R, D, Brand, G>(rt, alloc, parts, script, gate, mode);
             Ok(Stored { epoch, ended })
         }
-        Err(_) => Err(take_apart(parts, room)),
+        Err(_) => Err(take_apart(parts, rooms.returns)),
     }
 }
 
-/// Mounts the disks of a store, and runs the sessions of a script over them. A refusal hands them back in their order,
-/// each as its mounting left it.
+/// Mounts the disks of a store, behind which stand their spares, and runs the sessions of a script over them. A refusal
+/// hands them back in their order, each as its mounting left it.
 pub(crate) fn run_disks<R: Threads + Wait + Sync, D: Disk + Drop + Send, G: Gate + Sync>(
     rt: &R,
     alloc: Global,
     disks: Vec<D>,
-    room: Vec<D>,
+    rooms: Rooms<D>,
     script: &Script,
     limit: u64,
     gate: &G,
@@ -155,16 +144,14 @@ pub(crate) fn run_disks<R: Threads + Wait + Sync, D: Disk + Drop + Send, G: Gate
     ghost given: { List D }
     requires proper { IsProper (plan_of_script script.now) }
     requires spelled { (body.table 1).fits script.now.table }
-    requires all { length disks.items ≡ script.now.table.copies + 1 }
-    requires none { room.items ≡ [] }
-    requires room { 17 ≤ vec_capacity room }
+    requires all { length disks.items ≡ all_places script.now.table.copies }
     requires given { disks.items ≡ given }
     ensures ran { IfOk result (HasRun D.view (plan_of_script script.now) limit
         (told_by (map (λ disk. (D.view disk).content) given))
         (counted_by (map (λ disk. (D.view disk).faults) given))) }
     ensures sound { (images : List (List ℕ)) → TellImages D.view disks.items images
         → OnOk result (AreSound script.now.table limit images) }
-    ensures left { IfErr result (λ refused. AreLeft D.view script.now.table (reason_in refused) 0
+    ensures left { IfErr result (λ refused. AreLeft D.view script.now.table (reason_in refused)
         disks.items (disks_in refused)) }
     ensures reason { IfErr result (λ refused. IsReasonAmong 0 script.now.table.copies
         (λ bad. (images : List (List ℕ)) → TellImages D.view disks.items images
@@ -176,10 +163,10 @@ pub(crate) fn run_disks<R: Threads + Wait + Sync, D: Disk + Drop + Send, G: Gate
         Err(disks) => return Err(MountNo::Memory { disks }),
     };
     match mount_disks(alloc, boxed, &script.table, limit) {
-        Ok(parts) => match run_mounted(rt, alloc, parts, room, script, gate, mode) {
+        Ok(parts) => match run_mounted(rt, alloc, parts, rooms, script, gate, mode) {
             Ok(stored) => Ok(stored),
             Err(disks) => Err(MountNo::Memory { disks }),
         },
-        Err(refused) => Err(unbox_refusal(refused, room)),
+        Err(refused) => Err(unbox_refusal(refused, rooms.returns)),
     }
 }

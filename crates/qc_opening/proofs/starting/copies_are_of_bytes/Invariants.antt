@@ -6,4 +6,4 @@ use Rattle.qc_opening.specs.Mountings.{AreBytes}
 use Rattle.qc_opening.proofs.starting.copies_are_of_bytes.Given as goal
 
 abbrev pub invariant-loop-copy : goal.invariant-loop-copy
-invariant-loop-copy g l = All (λ copy. AreBytes (records_of copy)) (take l.copy-index l.copies)
+invariant-loop-copy g l = All (λ pair. AreBytes (records_of pair.copy)) (take l.copy-index l.copies)

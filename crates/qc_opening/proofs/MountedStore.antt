@@ -1,0 +1,296 @@
+-- A store that was mounted, as the pairs of disks that were found.
+use Rattle.std.proofs.Common.{◌≡◌, ℕ, zero, suc, ◌+◌, ◌<◌, ◌≤◌, ◌^◌, List, [], ◌∷◌, ◌++◌, length, map, get_or, refl, sym, ap, ◌∙◌, subst, arith}
+use Rattle.std.specs.Prelude.{All, Bool, true, false, if◌then◌else◌, Option, None, Some, IfSome, slice_get, slice_index_or}
+use Rattle.std.proofs.lemmas.List.{length-map}
+use Rattle.qc_config.specs.declared.tuple.Tuple.{Tuple}
+use Rattle.qc_disk.specs.declared.disk.Disk.{Ghosts}
+use Rattle.qc_codec.specs.Base.{base_in, copy_base, tuples_of_base}
+use Rattle.qc_codec.specs.Bodies as body
+use Rattle.qc_codec.specs.Copy.{grant_form}
+use Rattle.qc_codec.specs.Ledger.{readings}
+use Rattle.qc_codec.specs.Restored.{restored_row}
+use Rattle.qc_codec.specs.declared.past.Past.{Past}
+use Rattle.qc_event.specs.declared.table.Table.{Table}
+use Rattle.qc_desk.specs.Held.{from_row}
+use Rattle.qc_journal.specs.Image.{HasRecords}
+use Rattle.qc_journal.specs.Journal.{disk_of}
+use Rattle.qc_journal.specs.declared.journal.Journal.{Journal}
+use Rattle.qc_ledger.specs.Image.{AreMountableAsLedger}
+use Rattle.qc_ledger.specs.Mounted as book
+use Rattle.qc_ledger.proofs.Logging.{up_by}
+use Rattle.qc_opening.specs.Disks.{told_by}
+use Rattle.qc_opening.specs.Mounted.{IsCopy}
+use Rattle.qc_opening.specs.Mountings.{AreBytes, MountedOn}
+use Rattle.qc_opening.specs.Pairs.{active_number, of_active, of_other, MountedInPairs}
+use Rattle.qc_opening.specs.Parts.{counted_by, IsStoreOver}
+use Rattle.qc_opening.specs.declared.parts.Parts.{Parts}
+use Rattle.qc_opening.specs.Stored.{WasMounted}
+use Rattle.qc_opening.proofs.Found.{active_found, active_found_so, active_later_so, active_told_is, active_was_so, bodies_found, found_of, other_found, other_found_so, other_was_so, swapped_found, IsPairAt}
+use Rattle.qc_opening.proofs.Mountings.Numbered.{pairs_length}
+use Rattle.qc_opening.proofs.Mountings.Row.{own_at, spare_at}
+use Rattle.qc_opening.proofs.ReadBodies.{bodies_told}
+use Rattle.qc_opening.proofs.Places.{all_at, at_place, get_next, mapped_at, pair_at}
+use Rattle.qc_pair.specs.Fold.{other_in, swapped_in}
+use Rattle.qc_pair.specs.Opening.{HaveActive}
+use Rattle.qc_pair.specs.Pair.{number_at}
+use Rattle.qc_pair.specs.declared.fold.Fold.{Fold}
+use Rattle.qc_pair.specs.declared.kind.Kind.TheVariants as kind
+use Rattle.qc_site.specs.Image.{to_write, AreGranted, AreMountableAsCopy}
+use Rattle.qc_site.specs.Mounted as copy
+use Rattle.qc_site.specs.Start.{start_of}
+use Rattle.qc_system.specs.Pairs.{own_then_spares}
+use Rattle.qc_system.specs.Parts.{AreMounted, Findings, IsLedger, IsMounted}
+use Rattle.qc_system.specs.declared.parts.CopyPair.{CopyPair}
+
+-- what was mounted of a copy is what was mounted of one with the same disk, which told the same
+mounts_as : (disk disk' : ℕ) (table : Table) (past : Past) (limit : ℕ) (told told' : Option (List ℕ)) (records records' : List (List ℕ)) → disk' ≡ disk → told' ≡ told → records' ≡ records → copy.MountsCopy disk table past limit told records
+    → copy.MountsCopy disk' table past limit told' records'
+mounts_as disk disk' table past limit told told' records records' of_disk of_told of_records m = record {
+  found = m.found;
+  granted = subst (λ d. AreGranted d table past m.found) (sym of_disk) m.granted;
+  fine = subst (λ o. IfSome o (λ bytes. HasRecords m.found bytes × AreMountableAsCopy disk' table past limit m.found)) (sym of_told)
+      (subst (λ d. IfSome told (λ bytes. HasRecords m.found bytes × AreMountableAsCopy d table past limit m.found)) (sym of_disk) m.fine);
+  all = of_records ∙ (m.all ∙ ap (λ d. m.found ++ to_write d table m.found) (sym of_disk));
+}
+
+-- of the pair the same is active
+have_as : (who : ℕ) (told told' spare_told spare_told' : Option (List ℕ)) (is_spare is_spare' : Bool) (found : List (List ℕ)) → told' ≡ told → spare_told' ≡ spare_told → is_spare' ≡ is_spare → HaveActive kind.Copy who told spare_told is_spare found
+    → HaveActive kind.Copy who told' spare_told' is_spare' found
+have_as who told told' spare_told spare_told' is_spare is_spare' found of_told of_spare which have =
+    subst (λ b. HaveActive kind.Copy who told' spare_told' b found) (sym which)
+    (subst (λ o. HaveActive kind.Copy who told' o is_spare found) (sym of_spare) (subst (λ o. HaveActive kind.Copy who o spare_told is_spare found) (sym of_told) have))
+
+-- one of both has what it had
+one_has : (told spare_told : Option (List ℕ)) (own spare : List (List ℕ)) (is_spare : Bool) → IfSome told (HasRecords own) → IfSome spare_told (HasRecords spare) → IfSome (if is_spare then told else spare_told) (HasRecords (if is_spare then own else spare))
+one_has told spare_told own spare true has has_spare = has
+one_has told spare_told own spare false has has_spare = has_spare
+
+-- the copies from one on were mounted so, where each was
+are_mounted : {D : Type 0} {g : Ghosts D} (base : List (List Tuple)) (found : Findings) (number : ℕ) (copies : List (CopyPair D g)) → ((i : ℕ) (m : CopyPair D g) → slice_get copies i ≡ Some m → IsMounted base found (number + i) m) → AreMounted base found number copies
+are_mounted base found number [] each = tt
+are_mounted base found number (m ∷ copies) each = (
+  subst (λ n. IsMounted base found n m) (omega arith) (each 0 m refl),
+  are_mounted base found (number + 1) copies (λ i x is. subst (λ n. IsMounted base found n x) (omega arith) (each (suc i) x is)),
+)
+
+-- what stands of a pair of disks in the rows of all
+module _ {D A : Type 0} (f : D → A) (d : A) (row : List A) (pairs : List (D × D)) (is : map f (own_then_spares pairs) ≡ row) (place : ℕ) (disks : D × D) (there : slice_get pairs place ≡ Some disks) where
+  row_own : get_or row place d ≡ f disks.0
+  row_own = ap (λ (l : List A). get_or l place d) (sym is) ∙ own_at f d pairs place disks there
+
+  row_spare : (many : ℕ) → many ≡ length pairs → get_or row (many + place) d ≡ f disks.1
+  row_spare many size = ap (λ (l : List A). get_or l (many + place) d) (sym is) ∙ spare_at f d pairs place many (many + place) disks there (sym size) refl
+
+module _ {D : Type 0} {g : Ghosts D} (table : Table) (told : List (Option (List ℕ))) (counts : List ℕ) (parts : Parts D g) (store : IsStoreOver table told counts parts) (all : length parts.copies.items ≡ table.copies) where
+  abbrev items : List (CopyPair D g)
+  items = parts.copies.items
+
+  many_pairs : table.copies + 1 ≡ length store.pairs
+  many_pairs = omega (arith, all, ap length store.mounted.pairs_are, pairs_length (IsCopy table parts.past parts.epoch store.limit) 0 store.mounted.copy_pairs items store.mounted.copies_are)
+
+  -- THE LEDGER'S PAIR
+
+  abbrev ledger_pair : D × D
+  ledger_pair = store.mounted.ledger_pair
+
+  ledger_there : slice_get store.pairs 0 ≡ Some ledger_pair
+  ledger_there = ap (λ (l : List (D × D)). slice_get l 0) store.mounted.pairs_are
+
+  pub ledger_at : IsPairAt table told parts.ledger items counts 0 parts.ledger.fold (book.journal_of parts.ledger.book) (book.records_of parts.ledger.book) ledger_pair
+  ledger_at =
+      let l = store.mounted.ledger_is in
+      record {
+        own_told = row_own (λ d. (g.view d).content) None told store.pairs store.contents 0 ledger_pair ledger_there;
+        spare_told = row_spare (λ d. (g.view d).content) None told store.pairs store.contents 0 ledger_pair ledger_there (table.copies + 1) many_pairs;
+        own_counted = row_own (λ d. (g.view d).faults) 0 counts store.pairs store.counted 0 ledger_pair ledger_there;
+        spare_counted = row_spare (λ d. (g.view d).faults) 0 counts store.pairs store.counted 0 ledger_pair ledger_there (table.copies + 1) many_pairs;
+        own_later = l.left.own.cause.later;
+        spare_later = l.left.spare.cause.later;
+        bodies_are = refl;
+        swapped_is = refl;
+        active_is = refl;
+        other_is = refl;
+        up = up_by (book.journal_of parts.ledger.book).state parts.ledger.book.up;
+        keeps = l.mounts.keeps;
+        other_up = l.folds.up;
+        others = if swapped_in parts.ledger.fold then l.mounts.opens.have.own else l.mounts.opens.have.spare;
+        others_had = one_has (g.view ledger_pair.0).content (g.view ledger_pair.1).content l.mounts.opens.have.own l.mounts.opens.have.spare (swapped_in parts.ledger.fold) l.mounts.opens.have.has_own l.mounts.opens.have.has_spare;
+        keeps_other = l.mounts.opens.keeps_other;
+      }
+
+  -- THE COPIES' PAIRS
+
+  -- What was mounted as a copy.
+  pub record IsCopyAt (i : ℕ) (pair : CopyPair D g) : Type 0 where
+    pub disks : D × D
+    pub is_copy : IsCopy table parts.past parts.epoch store.limit i disks pair
+    pub at : IsPairAt table told parts.ledger items counts (i + 1) pair.fold (copy.journal_of pair.copy) (copy.records_of pair.copy) disks
+    pub start : get_or (map (λ p. start_of p.copy) items) i [] ≡ start_of pair.copy
+
+  pub copy_at : (i : ℕ) (pair : CopyPair D g) → slice_get items i ≡ Some pair → IsCopyAt i pair
+  copy_at i pair is =
+      let (disks, there, has) = pair_at (IsCopy table parts.past parts.epoch store.limit) 0 store.mounted.copy_pairs items store.mounted.copies_are i pair is in
+      let c : IsCopy table parts.past parts.epoch store.limit i disks pair = subst (λ n. IsCopy table parts.past parts.epoch store.limit n disks pair) (omega arith) has in
+      let next : suc i ≡ i + 1 = omega arith in
+      let row_there : slice_get store.pairs (i + 1) ≡ Some disks = ap (λ (l : List (D × D)). slice_get l (i + 1)) store.mounted.pairs_are ∙ subst (λ n. slice_get (ledger_pair ∷ store.mounted.copy_pairs) n ≡ Some disks) next there in
+      record {
+        disks = disks;
+        is_copy = c;
+        start = mapped_at (λ p. start_of p.copy) items i pair [] is;
+        at = record {
+          own_told = row_own (λ d. (g.view d).content) None told store.pairs store.contents (i + 1) disks row_there;
+          spare_told = row_spare (λ d. (g.view d).content) None told store.pairs store.contents (i + 1) disks row_there (table.copies + 1) many_pairs;
+          own_counted = row_own (λ d. (g.view d).faults) 0 counts store.pairs store.counted (i + 1) disks row_there;
+          spare_counted = row_spare (λ d. (g.view d).faults) 0 counts store.pairs store.counted (i + 1) disks row_there (table.copies + 1) many_pairs;
+          own_later = c.left.own.cause.later;
+          spare_later = c.left.spare.cause.later;
+          bodies_are = get_next (book.records_of parts.ledger.book) (map (λ p. copy.records_of p.copy) items) i [] ∙ mapped_at (λ p. copy.records_of p.copy) items i pair [] is;
+          swapped_is = get_next (swapped_in parts.ledger.fold) (map (λ p. swapped_in p.fold) items) i false ∙ mapped_at (λ p. swapped_in p.fold) items i pair false is;
+          active_is = get_next (disk_of (book.journal_of parts.ledger.book)) (map (λ p. disk_of (copy.journal_of p.copy)) items) i (disk_of (book.journal_of parts.ledger.book)) ∙ mapped_at (λ p. disk_of (copy.journal_of p.copy)) items i pair (disk_of (book.journal_of parts.ledger.book)) is;
+          other_is = get_next (disk_of (other_in parts.ledger.fold)) (map (λ p. disk_of (other_in p.fold)) items) i (disk_of (other_in parts.ledger.fold)) ∙ mapped_at (λ p. disk_of (other_in p.fold)) items i pair (disk_of (other_in parts.ledger.fold)) is;
+          up = c.up;
+          keeps = c.mounts.keeps;
+          other_up = c.folds.up;
+          others = if swapped_in pair.fold then c.mounts.opens.have.own else c.mounts.opens.have.spare;
+          others_had = one_has (g.view disks.0).content (g.view disks.1).content c.mounts.opens.have.own c.mounts.opens.have.spare (swapped_in pair.fold) c.mounts.opens.have.has_own c.mounts.opens.have.has_spare;
+          keeps_other = c.mounts.opens.keeps_other;
+        };
+      }
+
+  -- there is one of each number
+  pub some_copy : (i : ℕ) → i < table.copies → (pair : CopyPair D g) × (slice_get items i ≡ Some pair) × IsCopyAt i pair
+  some_copy i there =
+      let (pair, is) = at_place items i (omega (arith, there, all)) in
+      (pair, is, copy_at i pair is)
+
+  -- what holds of the ledger's pair and of each copy's holds of each
+  pub each_pair : (P : ℕ → Type 0) → ((fold : Fold D g) (journal : Journal D g) (records : List (List ℕ)) (disks : D × D) (pair : ℕ) → IsPairAt table told parts.ledger items counts pair fold journal records disks → P pair)
+      → (pair : ℕ) → pair ≤ table.copies → P pair
+  each_pair P has zero low = has parts.ledger.fold (book.journal_of parts.ledger.book) (book.records_of parts.ledger.book) ledger_pair 0 ledger_at
+  each_pair P has (suc i) low =
+      let (pair, is, at) = some_copy i (omega (arith, low)) in
+      let next : i + 1 ≡ suc i = omega arith in
+      subst P next (has pair.fold (copy.journal_of pair.copy) (copy.records_of pair.copy) at.disks (i + 1) at.at)
+
+  -- THE DISKS AS THEY WERE MOUNTED
+
+  pub active_was : (pair : ℕ) → pair ≤ table.copies → WasMounted g.view (active_found parts.ledger items pair) (bodies_found parts.ledger items pair) (of_active table (swapped_found parts.ledger items) (told_by told) pair)
+  active_was = each_pair (λ pair. WasMounted g.view (active_found parts.ledger items pair) (bodies_found parts.ledger items pair) (of_active table (swapped_found parts.ledger items) (told_by told) pair))
+      (λ fold journal records disks pair at. active_was_so table told parts.ledger items counts pair fold journal records disks at)
+
+  pub other_was : (pair : ℕ) → pair ≤ table.copies → WasMounted g.view (other_found parts.ledger items pair) (bodies_told (of_other table (swapped_found parts.ledger items) (told_by told) pair)) (of_other table (swapped_found parts.ledger items) (told_by told) pair)
+  other_was = each_pair (λ pair. WasMounted g.view (other_found parts.ledger items pair) (bodies_told (of_other table (swapped_found parts.ledger items) (told_by told) pair)) (of_other table (swapped_found parts.ledger items) (told_by told) pair))
+      (λ fold journal records disks pair at. other_was_so table told parts.ledger items counts pair fold journal records disks at)
+
+  pub active_later : (pair : ℕ) → pair ≤ table.copies → of_active table (swapped_found parts.ledger items) (counted_by counts) pair ≤ (g.view (active_found parts.ledger items pair)).faults
+  active_later = each_pair (λ pair. of_active table (swapped_found parts.ledger items) (counted_by counts) pair ≤ (g.view (active_found parts.ledger items pair)).faults)
+      (λ fold journal records disks pair at. active_later_so table told parts.ledger items counts pair fold journal records disks at)
+
+  -- THE SYSTEM
+
+  abbrev found : Findings
+  found = found_of table told parts.ledger items
+
+  pub ledger_found : IsLedger found parts.ledger
+  ledger_found = record {
+    disk = active_found_so table told parts.ledger items counts 0 parts.ledger.fold (book.journal_of parts.ledger.book) (book.records_of parts.ledger.book) ledger_pair ledger_at;
+    limit = refl;
+    other = other_found_so table told parts.ledger items counts 0 parts.ledger.fold (book.journal_of parts.ledger.book) (book.records_of parts.ledger.book) ledger_pair ledger_at;
+  }
+
+  module _ (base : List (List Tuple)) (rows : base ≡ map (λ p. start_of p.copy) items) where
+    as_many : length base ≡ table.copies
+    as_many = ap length rows ∙ (length-map items (λ (p : CopyPair D g). start_of p.copy) ∙ all)
+
+    copy_found : (i : ℕ) (pair : CopyPair D g) → slice_get items i ≡ Some pair → IsMounted base found i pair
+    copy_found i pair is =
+        let at = copy_at i pair is in
+        record {
+          number = at.is_copy.number_is;
+          many = at.is_copy.copies ∙ sym as_many;
+          starts = sym (ap (λ l. get_or l i []) rows ∙ at.start);
+          disk = active_found_so table told parts.ledger items counts (i + 1) pair.fold (copy.journal_of pair.copy) (copy.records_of pair.copy) at.disks at.at;
+          limit = at.is_copy.limit_is ∙ sym store.mounted.ledger_is.limit_is;
+          other = other_found_so table told parts.ledger items counts (i + 1) pair.fold (copy.journal_of pair.copy) (copy.records_of pair.copy) at.disks at.at;
+        }
+
+    pub copies_found : AreMounted base found 0 items
+    copies_found = are_mounted base found 0 items (λ i pair is. subst (λ n. IsMounted base found n pair) (omega arith) (copy_found i pair is))
+
+    -- THE MOUNTING
+
+    abbrev records : ℕ → List (List ℕ)
+    records = bodies_found parts.ledger items
+
+    abbrev swapped : ℕ → Bool
+    swapped = swapped_found parts.ledger items
+
+    module _ (proper : (body.table 1).fits table) (small : parts.epoch < 2 ^ 32) (ledger_bytes : AreBytes (book.records_of parts.ledger.book)) (copies_bytes : All (λ p. AreBytes (copy.records_of p.copy)) items) where
+      pair_bytes : (pair : ℕ) → pair ≤ table.copies → AreBytes (records pair)
+      pair_bytes zero low = ledger_bytes
+      pair_bytes (suc i) low =
+          let (pair, is, at) = some_copy i (omega (arith, low)) in
+          subst AreBytes (sym (mapped_at (λ p. copy.records_of p.copy) items i pair [] is)) (all_at (λ p. AreBytes (copy.records_of p.copy)) items i pair copies_bytes is)
+
+      ledger_mounts : book.MountsLedger (active_number swapped 0) table store.limit (of_active table swapped (told_by told) 0) (records 0) parts.past parts.epoch
+      ledger_mounts =
+          let m = store.mounted.ledger_is.mounts.mounts in
+          record {
+            found = m.found;
+            ledgers = m.ledgers;
+            fine = subst (λ o. IfSome o (λ bytes. HasRecords m.found bytes × AreMountableAsLedger (active_number swapped 0) table store.limit m.found))
+                (sym (active_told_is table told parts.ledger items counts 0 parts.ledger.fold (book.journal_of parts.ledger.book) (book.records_of parts.ledger.book) ledger_pair ledger_at)) m.fine;
+            past_is = m.past_is;
+            next = m.next;
+            all = m.all;
+          }
+
+      copy_mounts : (i : ℕ) → i < table.copies → copy.MountsCopy (active_number swapped (i + 1)) table parts.past store.limit (of_active table swapped (told_by told) (i + 1)) (records (i + 1))
+      copy_mounts i there =
+          let (pair, is, at) = some_copy i there in
+          let at_pair = at.at in
+          mounts_as (number_at (swapped_in pair.fold) (i + 1)) (active_number swapped (i + 1)) table parts.past store.limit (if swapped_in pair.fold then (g.view at.disks.1).content else (g.view at.disks.0).content)
+          (of_active table swapped (told_by told) (i + 1)) (copy.records_of pair.copy) (records (i + 1)) (ap (λ b. number_at b (i + 1)) at_pair.swapped_is)
+          (active_told_is table told parts.ledger items counts (i + 1) pair.fold (copy.journal_of pair.copy) (copy.records_of pair.copy) at.disks at_pair) at_pair.bodies_are at.is_copy.mounts.mounts
+
+      copy_starts : (i : ℕ) → i < table.copies
+          → slice_index_or base i [] ≡ restored_row parts.past.tops (length table.records) (from_row (tuples_of_base table (base_in copy_base (records (i + 1))))) (readings (grant_form table) (records (i + 1)))
+      copy_starts i there =
+          let (pair, is, at) = some_copy i there in
+          ap (λ l. get_or l i []) rows
+          ∙ (at.start
+          ∙ (at.is_copy.start ∙ ap (λ bs. restored_row parts.past.tops (length table.records) (from_row (tuples_of_base table (base_in copy_base bs))) (readings (grant_form table) bs)) (sym at.at.bodies_are)))
+
+      actives_mounted : MountedOn (active_number swapped) table (of_active table swapped (told_by told)) records parts.epoch base
+      actives_mounted = record { past = parts.past; limit = λ n. store.limit; proper = proper; small = small; bytes = pair_bytes; ledger = ledger_mounts; copies = copy_mounts; as_many = as_many; starts = copy_starts }
+
+      ledger_have : HaveActive kind.Ledger 0 (told_by told 0) (told_by told (table.copies + 1 + 0)) (swapped 0) ledger_mounts.found
+      unfolding ledger_mounts
+      ledger_have =
+          let have = store.mounted.ledger_is.mounts.opens.have in
+          let l = ledger_at in
+          subst (λ o. HaveActive kind.Ledger 0 o (told_by told (table.copies + 1 + 0)) (swapped 0) ledger_mounts.found) (sym l.own_told)
+          (subst (λ o. HaveActive kind.Ledger 0 (g.view ledger_pair.0).content o (swapped 0) ledger_mounts.found) (sym l.spare_told) have)
+
+      copy_have : (i : ℕ) (there : i < table.copies) → HaveActive kind.Copy (i + 1) (told_by told (i + 1)) (told_by told (table.copies + 1 + (i + 1))) (swapped (i + 1)) (copy_mounts i there).found
+      unfolding copy_mounts mounts_as
+      copy_have i there =
+          let (pair, is, at) = some_copy i there in
+          have_as (i + 1) (g.view at.disks.0).content (told_by told (i + 1)) (g.view at.disks.1).content (told_by told (table.copies + 1 + (i + 1))) (swapped_in pair.fold) (swapped (i + 1)) at.is_copy.mounts.mounts.found at.at.own_told at.at.spare_told at.at.swapped_is
+          at.is_copy.mounts.opens.have
+
+      pub store_mounted : MountedInPairs table (told_by told) records parts.epoch base
+      unfolding actives_mounted
+      store_mounted = record { swapped = swapped; mounted = actives_mounted; ledger = ledger_have; copies = copy_have }
+
+    -- the same, by slices of what was mounted
+    pub mounted_by : (body.table 1).fits table → parts.epoch < 2 ^ 32 → (bodies : List (List ℕ)) → AreBytes bodies → bodies ≡ book.records_of parts.ledger.book
+        → (slice : List (CopyPair D g)) → All (λ p. AreBytes (copy.records_of p.copy)) slice → slice ≡ items → MountedInPairs table (told_by told) records parts.epoch base
+    mounted_by proper small bodies are_bytes of_ledger slice all_bytes of_copies =
+        store_mounted proper small (subst AreBytes of_ledger are_bytes) (subst (All (λ (p : CopyPair D g). AreBytes (copy.records_of p.copy))) of_copies all_bytes)
+
+    -- the spares that are active are those that were found
+    pub swapped_by : (proper : (body.table 1).fits table) (small : parts.epoch < 2 ^ 32) (bodies : List (List ℕ)) (are_bytes : AreBytes bodies) (of_ledger : bodies ≡ book.records_of parts.ledger.book)
+        → (slice : List (CopyPair D g)) (all_bytes : All (λ p. AreBytes (copy.records_of p.copy)) slice) (of_copies : slice ≡ items) → (mounted_by proper small bodies are_bytes of_ledger slice all_bytes of_copies).swapped ≡ swapped
+    unfolding mounted_by store_mounted
+    swapped_by proper small bodies are_bytes of_ledger slice all_bytes of_copies = refl
