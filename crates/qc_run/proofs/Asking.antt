@@ -59,21 +59,21 @@ none_read words before now (status.DiskFault which) reading un = absurd un
 none_read words before now (status.Image bad) reading un = absurd un
 none_read words before now status.Room reading un = absurd un
 
-module _ {D : Type 0} (view : D → DiskView) (words : List (List ℕ)) (source_before source_now : SourceView) (shop_before : Shop) (shop_faults : ℕ) (before now : SinkView) (ran : Ran D) where
+module _ {D H : Type 0} (view : D → DiskView) (shop_view : H → Shop) (words : List (List ℕ)) (source_before source_now : SourceView) (shop shop_now : H) (before now : SinkView) (ran : Ran D) where
   abbrev ToWords : Type 0
-  ToWords = IsAnswerToWords view words source_before source_now shop_before shop_faults before now ran
+  ToWords = IsAnswerToWords view shop_view words source_before source_now shop shop_now before now ran
 
-  pub by_reading : (place : List ℕ) (mode : Mode) (form : Form) → IsCommand words (Asked.read_at place mode form) → IsAnswerToSource view form source_before source_now shop_before place shop_faults before now ran → ToWords
-  by_reading place mode form is (inl refused) = inr (inl (refused.0, none_read words source_before source_now ran.status (is.0, is.1) refused.1))
+  pub by_reading : (place : List ℕ) (mode : Mode) (form : Form) → IsCommand words (Asked.read_at place mode form) → IsAnswerToSource view shop_view form source_before source_now shop place shop_now before now ran → ToWords
+  by_reading place mode form is (inl refused) = inr (inl (refused.0, none_read words source_before source_now ran.status (is.0, is.1) refused.1, refused.2))
   by_reading place mode form is (inr run) = inr (inr (run.0, (record { asked = Asked.read_at place mode form; is_command = is; is_script = run.1 }, run.2)))
 
-  pub by_making : (n : ℕ) → IsCommand words (Asked.made_of n) → IsAnswerToMaking view (made_plan n) shop_before shop_faults before now ran → ToWords
-  by_making n is (inl refused) = inr (inl (refused.0, subst (HadNoScript words source_before source_now) (sym refused.1) tt))
+  pub by_making : (n : ℕ) → IsCommand words (Asked.made_of n) → IsAnswerToMaking view shop_view (made_plan n) shop shop_now before now ran → ToWords
+  by_making n is (inl refused) = inr (inl (refused.0, subst (HadNoScript words source_before source_now) (sym refused.1) tt, refused.2))
   by_making n is (inr answer) = inr (inr (made_plan n, (record { asked = Asked.made_of n; is_command = is; is_script = refl }, answer)))
 
-  pub by_audit : IsAudit words → HasAudited source_before source_now before now ran → ToWords
-  by_audit is audited = inl (is, audited)
+  pub by_audit : IsAudit words → HasAudited source_before source_now before now ran → shop_now ≡ shop → ToWords
+  by_audit is audited same = inl (is, audited, same)
 
-  pub by_nothing : IsNoCommand words → IsOrMemory status.Usage ran.status → IsEarly before now ran → ToWords
-  by_nothing none (inl usage) refusal = inr (inl (refusal, subst (HadNoScript words source_before source_now) (sym usage) none))
-  by_nothing none (inr memory) refusal = inr (inl (refusal, subst (HadNoScript words source_before source_now) (sym memory) tt))
+  pub by_nothing : IsNoCommand words → IsOrMemory status.Usage ran.status → IsEarly before now ran → shop_now ≡ shop → ToWords
+  by_nothing none (inl usage) refusal same = inr (inl (refusal, subst (HadNoScript words source_before source_now) (sym usage) none, same))
+  by_nothing none (inr memory) refusal same = inr (inl (refusal, subst (HadNoScript words source_before source_now) (sym memory) tt, same))

@@ -1,14 +1,13 @@
 -- What an audit answers and writes, by what its parts keep.
-use Rattle.std.proofs.Common.{◌≡◌, ℕ, ◌+◌, ◌≤◌, ◌^◌, List, [], length, take, refl, sym, subst, inl, inr}
-use Rattle.std.specs.Prelude.{◌⊎◌, IfSome, Some}
+use Rattle.std.proofs.Common.{◌≡◌, ℕ, ◌+◌, ◌≤◌, List, [], length, take, refl, sym, subst, inl, inr}
+use Rattle.std.specs.Prelude.{IfSome, Some}
 use Rattle.qc_audit.specs.Verdicts.{Judges}
 use Rattle.qc_audit.specs.declared.verdict.Verdict.{Verdict}
 use Rattle.qc_audit.specs.declared.verdict.Verdict.TheVariants as verdict
-use Rattle.qc_io.specs.Io.{Rose, Appends, AppendsFront, Drops, SinkView, SourceView}
-use Rattle.qc_report.specs.Report.{Text}
-use Rattle.qc_run.specs.Audit.{Finds, IsAudited, IsNoTrail, MayAudit, most_saved, status_of, verdict_text}
-use Rattle.qc_run.specs.Auditing.{AreNoTrail, Concluded, IsAuditOf, Says, WereJudged, WereLeft, WereRefused}
-use Rattle.qc_run.specs.Left.{HasAudited, IsRefusedRun, Wrote}
+use Rattle.qc_io.specs.Io.{Rose, Appends, Drops, SinkView, SourceView}
+use Rattle.qc_run.specs.Audit.{IsAudited, IsNoTrail, MayAudit, most_saved, status_of, verdict_text}
+use Rattle.qc_run.specs.Auditing.{AreNoTrail, Concluded, IsAuditOf, Says, WereRefused}
+use Rattle.qc_run.specs.Left.{HasAudited, IsRefusedRun}
 use Rattle.qc_run.specs.Run.{IsOrMemory, NoneBegun}
 use Rattle.qc_run.specs.declared.ran.Ran.{Ran}
 use Rattle.qc_run.specs.declared.status.Status.{Status}

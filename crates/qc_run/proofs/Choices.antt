@@ -1,8 +1,8 @@
 -- What options are read to choose is what they choose, and nothing else.
 use Rattle.std.proofs.Common.{◌≡◌, ℕ, Bool, true, false, List, [], ◌∷◌, ◌++◌, Option, None, Some, refl, sym, ap, ◌∙◌, subst, inl, inr}
-use Rattle.std.specs.Prelude.{◌==◌, ◌↔◌, ◌≢◌, codes, if◌then◌else◌, is_none, not, option_and_then, option_map}
+use Rattle.std.specs.Prelude.{◌==◌, ◌↔◌, codes, if◌then◌else◌, is_none, not, option_and_then, option_map}
 use Rattle.std.specs.Str.{bytes_eq}
-use Rattle.std.proofs.lemmas.Bool.{cond-false, cond-true, eqb-true, eq-eqb}
+use Rattle.std.proofs.lemmas.Bool.{cond-false, cond-true, eqb-true}
 use Rattle.std.proofs.lemmas.Slice.Eq.{bytes_eq-Decides}
 use Rattle.qc_run.specs.Options.{named, behind, joined, is_dir, is_serial, is_trail, choice_in, with_choice, chosen_by, run_choices}
 use Rattle.qc_run.specs.Words.{Text, Choice, Chosen, Choose, IsOneOf, IsRunAs, and_this, is_first, is_place, nothing_chosen, spellings}

@@ -1,18 +1,18 @@
 -- The clauses of a run, each from what it answered to its words.
-use Rattle.std.proofs.Common.{ℕ, ◌≡◌, ◌≤◌, true, List, [], length, reverse, refl, sym, ap, subst, inl, inr, arith}
-use Rattle.std.specs.Prelude.{◌⊎◌, Option}
+use Rattle.std.proofs.Common.{ℕ, ◌≡◌, ◌≤◌, List, [], ◌++◌, length, reverse, refl, sym, ap, subst, inl, inr, arith}
+use Rattle.std.specs.Prelude.{◌≢◌, ◌⊎◌, All}
 use Rattle.qc_codec.specs.declared.image.BadImage.{BadImage}
 use Rattle.qc_disk.specs.Disk.{DiskView}
-use Rattle.qc_disk.specs.Shop.{ShopView as Shop}
-use Rattle.qc_event.specs.History.{Name, is_ready, limit}
+use Rattle.qc_disk.specs.Shop.{TellsAlike, disks_of_place, ShopView as Shop}
+use Rattle.qc_event.specs.History.{Name, limit}
 use Rattle.qc_event.specs.declared.event.Entry.{Entry}
 use Rattle.qc_io.specs.Io.{Rose, Keeps, SinkView, SourceView}
-use Rattle.qc_opening.specs.Images.{IsFirstFault}
+use Rattle.qc_opening.specs.Disks.{first_numbers}
+use Rattle.qc_opening.specs.Images.{IsFirstFault, Offers}
 use Rattle.qc_report.specs.Report.{Text}
 use Rattle.qc_script.specs.Plan.{ScriptPlan}
-use Rattle.qc_script.specs.declared.bad_script.BadScript.{BadScript}
 use Rattle.qc_run.specs.Left.{Wrote, IsPerformed, TellsDoubt, HasAudited, HasRun, IsUnmounted, WasUnmounted, CameBack, IsAnswer, HadNoScript, IsAnswerToWords, IsEarly}
-use Rattle.qc_run.specs.Run.{journal_limit, form_of, text_by, AllEnded, AllOffered, BeganNothing, HadNone, HadNoSession, HadScript, HadSession, IsDiskFault, IsInDoubt, IsNotMounted, IsOfAudit, IsReadFault, IsReported, IsScriptFault, IsTold, NoneBegun, OfRun, OfScript, RanToEnd, RunsScript, TellsFault, UnlessAudit}
+use Rattle.qc_run.specs.Run.{journal_limit, form_of, text_by, AllEnded, BeganNothing, HadNone, HadNoSession, HadScript, HadSession, IsDiskFault, IsInDoubt, IsNotMounted, IsOfAudit, IsReadFault, IsScriptFault, IsTold, NoneBegun, OfRun, OfScript, RanToEnd, RunsScript, TellsFault, UnlessAudit}
 use Rattle.qc_run.specs.Audit.{IsAudited, MayAudit}
 use Rattle.qc_run.specs.Words.{place_of, AsAsked, Asked, AtPlace, IsAudit, IsCommand, IsNoCommand}
 use Rattle.qc_run.specs.declared.ran.Ran.{Ran}
@@ -21,6 +21,8 @@ use Rattle.qc_run.specs.declared.status.Status.TheVariants as status
 use Rattle.qc_run.proofs.OneCommand.{one_command}
 use Rattle.qc_run.proofs.Taken.{proper_one}
 use Rattle.qc_run.proofs.Doubts.{all_ended}
+use Rattle.qc_run.proofs.Given.{same_shop, tells_others}
+use Rattle.qc_run.proofs.Statuses.{ran_read, none_had, unmounted_not_ran, performed_began, unmounted_read, performed_mounted, unmounted_had, performed_had, none_fault, no_fault, audit_mounted, refused_unaudited, performed_unaudited, none_ready}
 
 -- WORDS
 
@@ -32,219 +34,19 @@ as_asked words asked Q is so = λ other too. subst Q (one_command words asked ot
 pub at_place : (words : List (List ℕ)) (asked : Asked) (Q : List ℕ → Type 0) → IsCommand words asked → Q (place_of asked) → AtPlace words Q
 at_place words asked Q is so = as_asked words asked (λ a. Q (place_of a)) is so
 
--- STATUSES
-
-pub ended_session : (answer : Status) → RanToEnd answer → HadSession answer
-ended_session status.Room ended = tt
-ended_session answer ended = ended
-
-pub reported_ran : (answer : Status) → IsReported answer → HadSession answer
-reported_ran status.Done is = tt
-reported_ran status.InDoubt is = tt
-reported_ran status.Usage is = absurd is
-reported_ran (status.Script e) is = absurd is
-reported_ran status.ReadFault is = absurd is
-reported_ran status.WriteFault is = absurd is
-reported_ran (status.DiskFault which) is = absurd is
-reported_ran (status.Image bad) is = absurd is
-reported_ran status.Memory is = absurd is
-reported_ran status.Trail is = absurd is
-reported_ran (status.Illegal at) is = absurd is
-reported_ran (status.Unserial at) is = absurd is
-reported_ran status.Room is = absurd is
-
-pub failed_ran : (answer : Status) → answer ≡ status.WriteFault → HadSession answer
-failed_ran answer failed = subst HadSession (sym failed) tt
-
-pub ran_read : (answer : Status) → HadSession answer → HadScript answer
-ran_read status.Done is = tt
-ran_read status.InDoubt is = tt
-ran_read status.WriteFault is = tt
-ran_read status.Usage is = absurd is
-ran_read (status.Script e) is = absurd is
-ran_read status.ReadFault is = absurd is
-ran_read (status.DiskFault which) is = absurd is
-ran_read (status.Image bad) is = absurd is
-ran_read status.Memory is = absurd is
-ran_read status.Trail is = absurd is
-ran_read (status.Illegal at) is = absurd is
-ran_read (status.Unserial at) is = absurd is
-ran_read status.Room is = tt
-
-none_had : (words : List (List ℕ)) (before now : SourceView) (answer : Status) → HadNoScript words before now answer → HadScript answer → ⊥
-none_had words before now status.Done none is = absurd none.1
-none_had words before now status.InDoubt none is = absurd none.1
-none_had words before now status.WriteFault none is = absurd none.1
-none_had words before now status.Usage none is = absurd is
-none_had words before now (status.Script e) none is = absurd is
-none_had words before now status.ReadFault none is = absurd is
-none_had words before now (status.DiskFault which) none is = absurd none.1
-none_had words before now (status.Image bad) none is = absurd none.1
-none_had words before now status.Memory none is = absurd is
-none_had words before now status.Trail none is = absurd is
-none_had words before now (status.Illegal at) none is = absurd is
-none_had words before now (status.Unserial at) none is = absurd is
-none_had words before now status.Room none is = absurd none.1
-
-pub unmounted_not_ran : {D : Type 0} (view : D → DiskView) (s : ScriptPlan) (shop : Shop) (place : List ℕ) (now : ℕ) (disks : List D) (answer : Status) → IsUnmounted view s shop place now disks answer → HadSession answer → ⊥
-unmounted_not_ran view s shop place now disks status.Done un is = absurd un
-unmounted_not_ran view s shop place now disks status.InDoubt un is = absurd un
-unmounted_not_ran view s shop place now disks status.WriteFault un is = absurd un
-unmounted_not_ran view s shop place now disks status.Usage un is = absurd is
-unmounted_not_ran view s shop place now disks (status.Script e) un is = absurd is
-unmounted_not_ran view s shop place now disks status.ReadFault un is = absurd is
-unmounted_not_ran view s shop place now disks (status.DiskFault which) un is = absurd is
-unmounted_not_ran view s shop place now disks (status.Image bad) un is = absurd is
-unmounted_not_ran view s shop place now disks status.Memory un is = absurd is
-unmounted_not_ran view s shop place now disks status.Trail un is = absurd is
-unmounted_not_ran view s shop place now disks (status.Illegal at) un is = absurd is
-unmounted_not_ran view s shop place now disks (status.Unserial at) un is = absurd is
-unmounted_not_ran view s shop place now disks status.Room un is = absurd un
-
-performed_began : (answer : Status) → IsPerformed answer → BeganNothing answer → ⊥
-performed_began status.Done is none = absurd none
-performed_began status.InDoubt is none = absurd none
-performed_began status.WriteFault is none = absurd none
-performed_began status.Usage is none = absurd is
-performed_began (status.Script e) is none = absurd is
-performed_began status.ReadFault is none = absurd is
-performed_began (status.DiskFault which) is none = absurd is
-performed_began (status.Image bad) is none = absurd is
-performed_began status.Memory is none = absurd none
-performed_began status.Trail is none = absurd is
-performed_began (status.Illegal at) is none = absurd none
-performed_began (status.Unserial at) is none = absurd none
-performed_began status.Room is none = absurd none
-
-unmounted_read : (answer : Status) → IsNotMounted answer → HadScript answer
-unmounted_read (status.DiskFault which) is = tt
-unmounted_read (status.Image bad) is = tt
-unmounted_read status.Done is = absurd is
-unmounted_read status.InDoubt is = absurd is
-unmounted_read status.WriteFault is = absurd is
-unmounted_read status.Usage is = absurd is
-unmounted_read (status.Script e) is = absurd is
-unmounted_read status.ReadFault is = absurd is
-unmounted_read status.Memory is = absurd is
-unmounted_read status.Trail is = absurd is
-unmounted_read (status.Illegal at) is = absurd is
-unmounted_read (status.Unserial at) is = absurd is
-unmounted_read status.Room is = absurd is
-
-performed_mounted : (answer : Status) → IsPerformed answer → IsNotMounted answer → ⊥
-performed_mounted status.Done is un = absurd un
-performed_mounted status.InDoubt is un = absurd un
-performed_mounted status.WriteFault is un = absurd un
-performed_mounted status.Usage is un = absurd is
-performed_mounted (status.Script e) is un = absurd is
-performed_mounted status.ReadFault is un = absurd is
-performed_mounted (status.DiskFault which) is un = absurd is
-performed_mounted (status.Image bad) is un = absurd is
-performed_mounted status.Memory is un = absurd un
-performed_mounted status.Trail is un = absurd un
-performed_mounted (status.Illegal at) is un = absurd un
-performed_mounted (status.Unserial at) is un = absurd un
-performed_mounted status.Room is un = absurd un
-
-unmounted_had : {D : Type 0} (view : D → DiskView) (s : ScriptPlan) (shop : Shop) (place : List ℕ) (now : ℕ) (disks : List D) (answer : Status) → IsUnmounted view s shop place now disks answer → HadNone answer → ⊥
-unmounted_had view s shop place now disks status.Done un is = absurd un
-unmounted_had view s shop place now disks status.InDoubt un is = absurd un
-unmounted_had view s shop place now disks status.WriteFault un is = absurd un
-unmounted_had view s shop place now disks status.Usage un is = absurd un
-unmounted_had view s shop place now disks (status.Script e) un is = absurd un
-unmounted_had view s shop place now disks status.ReadFault un is = absurd un
-unmounted_had view s shop place now disks (status.DiskFault which) un is = absurd is
-unmounted_had view s shop place now disks (status.Image bad) un is = absurd is
-unmounted_had view s shop place now disks status.Memory un is = absurd is
-unmounted_had view s shop place now disks status.Trail un is = absurd is
-unmounted_had view s shop place now disks (status.Illegal at) un is = absurd is
-unmounted_had view s shop place now disks (status.Unserial at) un is = absurd is
-unmounted_had view s shop place now disks status.Room un is = absurd is
-
-performed_had : (answer : Status) → IsPerformed answer → HadNone answer → ⊥
-performed_had status.Usage is none = absurd is
-performed_had (status.Script e) is none = absurd is
-performed_had status.ReadFault is none = absurd is
-performed_had status.Done is none = absurd none
-performed_had status.InDoubt is none = absurd none
-performed_had status.WriteFault is none = absurd none
-performed_had (status.DiskFault which) is none = absurd none
-performed_had (status.Image bad) is none = absurd none
-performed_had status.Memory is none = absurd none
-performed_had status.Trail is none = absurd none
-performed_had (status.Illegal at) is none = absurd none
-performed_had (status.Unserial at) is none = absurd none
-performed_had status.Room is none = absurd none
-
-none_fault : (words : List (List ℕ)) (before now : SourceView) (answer : Status) → HadNoScript words before now answer → IsScriptFault words before.left answer
-none_fault words before now (status.Script e) none = (none.0, none.1.0, none.1.1)
-none_fault words before now status.Done none = tt
-none_fault words before now status.InDoubt none = tt
-none_fault words before now status.WriteFault none = tt
-none_fault words before now status.Usage none = tt
-none_fault words before now status.ReadFault none = tt
-none_fault words before now (status.DiskFault which) none = tt
-none_fault words before now (status.Image bad) none = tt
-none_fault words before now status.Memory none = tt
-none_fault words before now status.Trail none = tt
-none_fault words before now (status.Illegal at) none = tt
-none_fault words before now (status.Unserial at) none = tt
-none_fault words before now status.Room none = tt
-
-no_fault : (words : List (List ℕ)) (left : Option (List ℕ)) (answer : Status) → ((e : BadScript) → answer ≡ status.Script e → ⊥) → IsScriptFault words left answer
-no_fault words left (status.Script e) none = absurd (none e refl)
-no_fault words left status.Done none = tt
-no_fault words left status.InDoubt none = tt
-no_fault words left status.WriteFault none = tt
-no_fault words left status.Usage none = tt
-no_fault words left status.ReadFault none = tt
-no_fault words left (status.DiskFault which) none = tt
-no_fault words left (status.Image bad) none = tt
-no_fault words left status.Memory none = tt
-no_fault words left status.Trail none = tt
-no_fault words left (status.Illegal at) none = tt
-no_fault words left (status.Unserial at) none = tt
-no_fault words left status.Room none = tt
-
--- an audit mounts no store
-audit_mounted : (answer : Status) → MayAudit answer → IsNotMounted answer → ⊥
-audit_mounted (status.DiskFault which) may un = absurd may
-audit_mounted (status.Image bad) may un = absurd may
-audit_mounted status.Done may un = absurd un
-audit_mounted status.InDoubt may un = absurd un
-audit_mounted status.WriteFault may un = absurd un
-audit_mounted status.Usage may un = absurd un
-audit_mounted (status.Script e) may un = absurd un
-audit_mounted status.ReadFault may un = absurd un
-audit_mounted status.Memory may un = absurd un
-audit_mounted status.Trail may un = absurd un
-audit_mounted (status.Illegal at) may un = absurd un
-audit_mounted (status.Unserial at) may un = absurd un
-audit_mounted status.Room may un = absurd un
-
--- what had no script answers no status of an audit
-refused_unaudited : (words : List (List ℕ)) (before now : SourceView) (answer : Status) → HadNoScript words before now answer → IsOfAudit answer → ⊥
-refused_unaudited words before now status.Trail none is = none.1
-refused_unaudited words before now (status.Illegal at) none is = none.1
-refused_unaudited words before now (status.Unserial at) none is = none.1
-refused_unaudited words before now answer none is = absurd is
-
--- nor does a session
-performed_unaudited : (answer : Status) → IsPerformed answer → IsOfAudit answer → ⊥
-performed_unaudited status.Trail is of = is
-performed_unaudited (status.Illegal at) is of = is
-performed_unaudited (status.Unserial at) is of = is
-performed_unaudited answer is of = absurd of
-
--- in an empty history nobody is ready
-none_ready : (top : Name) → is_ready [] top ≡ true → ⊥
-none_ready top ready = cc
-
 -- CLAUSES
 
-module _ {D : Type 0} (view : D → DiskView) (words : List (List ℕ)) (source_before source_now : SourceView) (shop_before : Shop) (shop_faults : ℕ) (before now : SinkView) (ran : Ran D) where
+module _ {D H : Type 0} (view : D → DiskView) (shop_view : H → Shop) (words : List (List ℕ)) (source_before source_now : SourceView) (shop shop_now : H) (before now : SinkView) (ran : Ran D) where
+  -- what is told of the shop before
+  abbrev shop_before : Shop
+  shop_before = shop_view shop
+
+  -- how often it has failed now
+  abbrev shop_faults : ℕ
+  shop_faults = (shop_view shop_now).faults
+
   abbrev Answers : Type 0
-  Answers = IsAnswerToWords view words source_before source_now shop_before shop_faults before now ran
+  Answers = IsAnswerToWords view shop_view words source_before source_now shop shop_now before now ran
 
   -- this is the script that the words run
   abbrev Is : ScriptPlan → Type 0
@@ -252,7 +54,7 @@ module _ {D : Type 0} (view : D → DiskView) (words : List (List ℕ)) (source_
 
   -- what was answered where this is asked for, and runs this script
   abbrev ToScript : ScriptPlan → Asked → Type 0
-  ToScript s asked = IsAnswer view s shop_before (place_of asked) (form_of asked) shop_faults before now ran
+  ToScript s asked = IsAnswer view s shop_before (place_of asked) (form_of asked) (shop_view shop_now) before now ran
 
   abbrev Runs : ScriptPlan → Asked → Type 0
   Runs s asked = HasRun view s shop_before (place_of asked) ran
@@ -274,8 +76,8 @@ module _ {D : Type 0} (view : D → DiskView) (words : List (List ℕ)) (source_
   not_audited audit why is none = none (subst MayAudit is audit.may)
 
   -- no session was begun where there was no script
-  no_script : IsEarly before now ran × HadNoScript words source_before source_now ran.status → HadNoSession ran
-  no_script refused = record { other = λ had. none_had words source_before source_now ran.status refused.1 (ran_read ran.status had); none = refused.0.refusal.none }
+  no_script : IsEarly before now ran → HadNoScript words source_before source_now ran.status → HadNoSession ran
+  no_script early none = record { other = λ had. none_had words source_before source_now ran.status none (ran_read ran.status had); none = early.refusal.none }
 
   -- nor where no store was mounted
   no_store : (s : ScriptPlan) (asked : Asked) → Unmounted s asked → HadNoSession ran
@@ -285,7 +87,7 @@ module _ {D : Type 0} (view : D → DiskView) (words : List (List ℕ)) (source_
   pub of_run : (P : ScriptPlan → Type 0) → Answers → ((s : ScriptPlan) (it : Is s) → Runs s it.asked → P s)
       → OfRun words source_before.left source_now.left ran P
   of_run P (inl audit) so = inl audit.0
-  of_run P (inr (inl refused)) so = inr (inl (no_script refused))
+  of_run P (inr (inl refused)) so = inr (inl (no_script refused.0 refused.1))
   of_run P (inr (inr run)) so = by_came run.1.1.came
     where
       by_came : Unmounted run.0 run.1.0.asked ⊎ Runs run.0 run.1.0.asked → OfRun words source_before.left source_now.left ran P
@@ -390,17 +192,17 @@ module _ {D : Type 0} (view : D → DiskView) (words : List (List ℕ)) (source_
       by_came (inr has) = absurd (no_session (subst IsPerformed is has.answer))
 
   -- the disk of a number failed, or the shop at it, at a place
-  abbrev IsFaulty : ℕ → List ℕ → Type 0
-  IsFaulty which place = IsDiskFault view shop_before.faults shop_faults (shop_before.counts place) ran.disks.items which
+  abbrev IsFaulty : ℕ → ScriptPlan → List ℕ → Type 0
+  IsFaulty which s place = IsDiskFault view s.table.copies shop_before.faults shop_faults (shop_before.counts place) ran.disks.items which
 
-  pub disk_failed : Answers → (which : ℕ) → ran.status ≡ status.DiskFault which → OfScript words source_before.left source_now.left (λ s. AtPlace words (IsFaulty which))
+  pub disk_failed : Answers → (which : ℕ) → ran.status ≡ status.DiskFault which → OfScript words source_before.left source_now.left (λ s. AtPlace words (IsFaulty which s))
   disk_failed is which fault =
-      let it = by_mounting (status.DiskFault which) (λ s asked. IsFaulty which (place_of asked)) is fault (λ no. no) (λ no. no) (λ no. no.1) (λ s asked why. why) in
-      (it.0, it.1.0, at_place words it.1.0.asked (IsFaulty which) it.1.0.is_command it.1.1)
+      let it = by_mounting (status.DiskFault which) (λ s asked. IsFaulty which s (place_of asked)) is fault (λ no. no) (λ no. no) (λ no. no.1) (λ s asked why. why) in
+      (it.0, it.1.0, at_place words it.1.0.asked (IsFaulty which it.0) it.1.0.is_command it.1.1)
 
   -- the first fault of the images that were offered at a place
   abbrev IsTheirs : BadImage → ScriptPlan → List ℕ → Type 0
-  IsTheirs bad s place = (images : List (List ℕ)) → AllOffered s.table (shop_before.offers place) images → IsFirstFault s.table journal_limit bad images
+  IsTheirs bad s place = (images : List (List ℕ)) → Offers s.table (shop_before.offers place) images → IsFirstFault s.table journal_limit bad images
 
   pub image_failed : Answers → (bad : BadImage) → ran.status ≡ status.Image bad → OfScript words source_before.left source_now.left (λ s. AtPlace words (IsTheirs bad s))
   image_failed is bad fault =
@@ -426,6 +228,22 @@ module _ {D : Type 0} (view : D → DiskView) (words : List (List ℕ)) (source_
       none_of_script s asked (inl un) = unmounted_had view s shop_before (place_of asked) shop_faults ran.disks.items ran.status un.why none
       none_of_script s asked (inr has) = performed_had ran.status has.answer none
 
+  -- those of a place that came back are all that the shop gave
+  abbrev IsGiven : ScriptPlan → List ℕ → Type 0
+  IsGiven s place = (shop_view shop_now).gave ≡ shop_before.gave ++ disks_of_place place (first_numbers s.table.copies (length ran.disks.items))
+
+  -- no disk was obtained and the shop is as it was, or those of a place were
+  pub given : Answers → ((ran.disks.items ≡ []) × (shop_now ≡ shop)) ⊎ OfScript words source_before.left source_now.left (λ s. AtPlace words (IsGiven s))
+  given (inl audit) = inl (audit.1.no_disks, audit.2)
+  given (inr (inl refused)) = inl (refused.0.no_disks, refused.2)
+  given (inr (inr run)) = inr (run.0, run.1.0, at_place words run.1.0.asked (IsGiven run.0) run.1.0.is_command run.1.1.given.gave)
+
+  -- of the disks that it did not give the shop tells as before
+  pub others : Answers → (more : List (List ℕ × ℕ)) → (shop_view shop_now).gave ≡ shop_before.gave ++ more → (place : List ℕ) (n : ℕ) → All (λ given. n ≢ given.1) more → TellsAlike shop_before (shop_view shop_now) place n
+  others (inl audit) more gave place n other = same_shop shop_view shop shop_now audit.2 place n
+  others (inr (inl refused)) more gave place n other = same_shop shop_view shop shop_now refused.2 place n
+  others (inr (inr run)) more gave place n other = tells_others run.0.table.copies (place_of run.1.0.asked) shop_before (shop_view shop_now) (length ran.disks.items) run.1.1.given more gave place n other
+
   -- where no session was begun, no disk was obtained, or those that were come back as a mounting left them
   pub wanting : Answers → ran.start ≡ [] → (ran.disks.items ≡ []) ⊎ OfScript words source_before.left source_now.left (λ s. AtPlace words (λ place. CameBack view s shop_before place ran.disks.items))
   wanting (inl audit) none = inl audit.1.no_disks
@@ -439,7 +257,7 @@ module _ {D : Type 0} (view : D → DiskView) (words : List (List ℕ)) (source_
           begun : Runs run.0 run.1.0.asked → ⊥
           begun has =
               let proper = proper_one source_before.left source_now.left run.0 run.1.0.asked run.1.0.is_script in
-              omega (arith, ap length none, has.grown.mounted.as_many, proper.some_copy)
+              omega (arith, ap length none, has.grown.mounted.mounted.as_many, proper.some_copy)
 
   -- what is so of a session that was run, where this status is none that began nothing
   by_session : (why : Status) (P : Type 0) → Answers → ran.status ≡ why → (Audited → MayAudit why → P) → ((s : ScriptPlan) (asked : Asked) → Why s asked ran.disks.items why → ⊥) → (HadNoScript words source_before source_now why → ⊥)

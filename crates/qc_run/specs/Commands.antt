@@ -1,5 +1,5 @@
 -- What a command asks for, and what was chosen behind `run`.
-use Rattle.std.specs.Prelude.{Option, option_map}
+use Rattle.std.specs.Prelude.{option_map}
 use Rattle.qc_run.specs.Words.{Asked, Choice, Chosen}
 use Rattle.qc_run.specs.declared.words.Command.{Command}
 use Rattle.qc_run.specs.declared.words.Command.TheVariants as command

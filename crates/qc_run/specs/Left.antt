@@ -1,9 +1,9 @@
 -- What the parts of a run keep, each said once.
-use Rattle.std.specs.Prelude.{ℕ, ◌≤◌, ◌≡◌, ◌≢◌, ◌⊎◌, List, [], length, reverse, IfSome}
+use Rattle.std.specs.Prelude.{ℕ, ◌≤◌, ◌≡◌, ◌≢◌, ◌⊎◌, List, [], ◌++◌, All, length, reverse, IfSome}
 use Rattle.qc_audit.specs.Saved.{saved_text, IsSaved}
 use Rattle.qc_config.specs.declared.tuple.Tuple.{Tuple}
 use Rattle.qc_disk.specs.Disk.{DiskView}
-use Rattle.qc_disk.specs.Shop.{ShopView as Shop}
+use Rattle.qc_disk.specs.Shop.{TellsAlike, disks_of_place, ShopView as Shop}
 use Rattle.qc_event.specs.History.{Name, limit}
 use Rattle.qc_event.specs.Legal.{Legal}
 use Rattle.qc_event.specs.Tables.{base_of, setting_of}
@@ -12,19 +12,20 @@ use Rattle.qc_event.specs.declared.short.Short.{Short}
 use Rattle.qc_event.specs.declared.short.Short.TheVariants as short
 use Rattle.qc_event.specs.declared.table.Table.{Table}
 use Rattle.qc_io.specs.Io.{Rose, Keeps, Appends, AppendsFront, SinkView, SourceView}
-use Rattle.qc_opening.specs.Images.{AreSound, IsFirstFault}
+use Rattle.qc_opening.specs.Disks.{by_place, first_numbers}
+use Rattle.qc_opening.specs.Images.{AreSound, IsFirstFault, Offers}
+use Rattle.qc_opening.specs.Pairs.{HaveNoGrantsInPairs}
 use Rattle.qc_opening.specs.Refusing.{disks_in, ComeBack}
 use Rattle.qc_opening.specs.declared.mount_no.MountNo.{MountNo}
 use Rattle.qc_opening.specs.declared.mount_no.MountNo.TheVariants as no
 use Rattle.qc_opening.specs.Stored.{AllTell, AreImages, HaveGrown, HavePaid, UnablesHadCause}
-use Rattle.qc_refine.specs.Images.{IsStandingWithin, Restores}
+use Rattle.qc_refine.specs.Pairs.{RestoreInPairs, StandInPairsWithin}
 use Rattle.qc_report.specs.Report.{Text}
 use Rattle.qc_script.specs.Plan.{ScriptPlan}
 use Rattle.qc_script.specs.Reading.{IsScript, ScriptIsRefused}
 use Rattle.qc_script.specs.declared.bad_script.BadScript.TheVariants.{Memory}
 use Rattle.qc_trail_codec.specs.declared.record.SavedTrail.{SavedTrail}
-use Rattle.qc_opening.specs.Mountings.{HaveNoGrants}
-use Rattle.qc_run.specs.Run.{journal_limit, form_of, text_by, AllOffered, BeginsIn, FollowsIn, IsDiskFault, IsInDoubt, IsOrMemory, IsReported, IsTold, NoneBegun, RanToEnd, ReadsScript, RunsScript, TellsFault}
+use Rattle.qc_run.specs.Run.{journal_limit, form_of, text_by, BeginsIn, FollowsIn, IsDiskFault, IsInDoubt, IsOrMemory, IsReported, IsTold, NoneBegun, RanToEnd, ReadsScript, RunsScript, TellsFault}
 use Rattle.qc_run.specs.Audit.{IsAudited, MayAudit}
 use Rattle.qc_run.specs.Words.{place_of, IsAudit, IsNoCommand, IsReading}
 use Rattle.qc_run.specs.declared.finishing.Form.{Form}
@@ -82,6 +83,11 @@ pub record IsEarly {D : Type 0} (before now : SinkView) (ran : Ran D) : Type 0 w
   pub refusal : IsRefusedRun before now ran
   pub no_disks : ran.disks.items ≡ []
 
+-- A shop gave so many disks of a place, the first ones of a store of so many copies. Of the others it tells as before.
+pub record HasGiven (copies : ℕ) (place : Text) (before now : Shop) (many : ℕ) : Type 0 where
+  pub gave : now.gave ≡ before.gave ++ disks_of_place place (first_numbers copies many)
+  pub others : (p : Text) (n : ℕ) → All (λ which. n ≢ which) (first_numbers copies many) → TellsAlike before now p n
+
 module _ {D : Type 0} (view : D → DiskView) (s : ScriptPlan) (shop : Shop) (place : Text) where
   -- The session of a script was run, from what the disks of a store restored, and left this.
   pub record HasRun (ran : Ran D) : Type 0 where
@@ -92,19 +98,19 @@ module _ {D : Type 0} (view : D → DiskView) (s : ScriptPlan) (shop : Shop) (pl
     pub follows : RanToEnd ran.status → FollowsIn epoch s ran.trail
     pub room : ran.status ≡ status.Room → length ran.trail ≡ limit
     pub doubt : TellsDoubt ran.status ran.trail
-    pub sound : (images : List (List ℕ)) → AllOffered s.table (shop.offers place) images → AreSound s.table journal_limit images
-    pub restores : (images : List (List ℕ)) → AllOffered s.table (shop.offers place) images → Restores s.table images ran.start
-    pub first : HaveNoGrants s.table (shop.offers place) → ran.start ≡ base_of s.table
-    pub stands : AllTell s.table.copies (shop.offers place) → (images : List (List ℕ)) → AreImages view ran.disks.items images
-        → ∥ IsStandingWithin 1 s.table ran.start epoch (reverse ran.trail) images ∥₁
-    pub grown : HaveGrown view s.table (shop.offers place) epoch ran.start ran.disks.items (reverse ran.trail)
-    pub paid : HavePaid view (shop.counts place) ran.disks.items (reverse ran.trail)
-    pub unable : UnablesHadCause s.table journal_limit (shop.offers place) epoch ran.start (reverse ran.trail)
+    pub sound : (images : List (List ℕ)) → Offers s.table (shop.offers place) images → AreSound s.table journal_limit images
+    pub restores : (images : List (List ℕ)) → Offers s.table (shop.offers place) images → RestoreInPairs s.table images ran.start
+    pub first : HaveNoGrantsInPairs s.table (by_place s.table.copies (shop.offers place)) → ran.start ≡ base_of s.table
+    pub stands : AllTell s.table.copies (by_place s.table.copies (shop.offers place)) → (images : List (List ℕ)) → AreImages view ran.disks.items images
+        → ∥ StandInPairsWithin 1 s.table ran.start epoch (reverse ran.trail) images ∥₁
+    pub grown : HaveGrown view s.table (by_place s.table.copies (shop.offers place)) epoch ran.start ran.disks.items (reverse ran.trail)
+    pub paid : HavePaid view s.table (by_place s.table.copies (shop.offers place)) (by_place s.table.copies (shop.counts place)) epoch ran.start ran.disks.items (reverse ran.trail)
+    pub unable : UnablesHadCause s.table journal_limit (by_place s.table.copies (shop.offers place)) epoch ran.start (reverse ran.trail)
 
   -- why no store was mounted, where the shop's count of faults is this now
   abbrev pub IsUnmounted : ℕ → List D → Status → Type 0
-  IsUnmounted now disks (status.DiskFault which) = IsDiskFault view shop.faults now (shop.counts place) disks which
-  IsUnmounted now disks (status.Image bad) = (images : List (List ℕ)) → AllOffered s.table (shop.offers place) images → IsFirstFault s.table journal_limit bad images
+  IsUnmounted now disks (status.DiskFault which) = IsDiskFault view s.table.copies shop.faults now (shop.counts place) disks which
+  IsUnmounted now disks (status.Image bad) = (images : List (List ℕ)) → Offers s.table (shop.offers place) images → IsFirstFault s.table journal_limit bad images
   IsUnmounted now disks status.Memory = Unit {0}
   IsUnmounted now disks _ = ⊥
 
@@ -112,18 +118,19 @@ module _ {D : Type 0} (view : D → DiskView) (s : ScriptPlan) (shop : Shop) (pl
   abbrev pub CameBack : List D → Type 0
   CameBack disks = (refused : MountNo D) × (disks_in refused ≡ disks) × ComeBack view (shop.offers place) (shop.counts place) s.table refused
 
-  -- No store was mounted, and nothing was begun.
-  pub record WasUnmounted (shop_now : ℕ) (ran : Ran D) : Type 0 where
+  -- No store was mounted, where the shop's count of faults is this now, and nothing was begun.
+  pub record WasUnmounted (now : ℕ) (ran : Ran D) : Type 0 where
     pub none : NoneBegun ran.start ran.trail
-    pub why : IsUnmounted shop_now ran.disks.items ran.status
+    pub why : IsUnmounted now ran.disks.items ran.status
     pub back : CameBack ran.disks.items
 
-  -- A script was run, and what was written of it has this form; or no store was mounted for it. The shop's count of
-  -- faults is this now.
-  pub record IsAnswer (form : Form) (shop_now : ℕ) (before now : SinkView) (ran : Ran D) : Type 0 where
+  -- A script was run, and what was written of it has this form; or no store was mounted for it. The shop is this now, and
+  -- all disks that it gave come back.
+  pub record IsAnswer (form : Form) (shop_now : Shop) (before now : SinkView) (ran : Ran D) : Type 0 where
     pub wrote : Wrote before now ran.status (text_by form s.table ran.start ran.trail)
     pub saved : IsReported ran.status → IsSavedBy form s.table ran.start ran.trail
-    pub came : WasUnmounted shop_now ran ⊎ HasRun ran
+    pub came : WasUnmounted shop_now.faults ran ⊎ HasRun ran
+    pub given : HasGiven s.table.copies place shop shop_now (length ran.disks.items)
 
 -- the status of a refusal to mount, or want of memory in its place
 abbrev pub IsStatusOf : {D : Type 0} → MountNo D → Status → Type 0
@@ -159,29 +166,30 @@ pub record HasAudited {D : Type 0} (source_before source_now : SourceView) (befo
   pub text : Text
   pub wrote : Wrote before now ran.status text
 
-module _ {D : Type 0} (view : D → DiskView) where
-  -- what is answered to bytes, over disks of a place, where this is written of a run
-  abbrev pub IsAnswerToBytes : Form → List ℕ → Shop → Text → ℕ → SinkView → SinkView → Ran D → Type 0
+module _ {D H : Type 0} (view : D → DiskView) (shop_view : H → Shop) where
+  -- What is answered to bytes, over disks of a place, where this is written of a run. Where they are no script the shop is as
+  -- it was.
+  abbrev pub IsAnswerToBytes : Form → List ℕ → H → Text → H → SinkView → SinkView → Ran D → Type 0
   IsAnswerToBytes form bytes shop place shop_now before now ran =
-      (IsEarly before now ran × IsNoScript bytes ran.status)
-      ⊎ ((s : ScriptPlan) × IsScript bytes s × IsAnswer view s shop place form shop_now before now ran)
+      (IsEarly before now ran × IsNoScript bytes ran.status × (shop_now ≡ shop))
+      ⊎ ((s : ScriptPlan) × IsScript bytes s × IsAnswer view s (shop_view shop) place form (shop_view shop_now) before now ran)
 
   -- what is answered where the source is to hold a script
-  abbrev pub IsAnswerToSource : Form → SourceView → SourceView → Shop → Text → ℕ → SinkView → SinkView → Ran D → Type 0
+  abbrev pub IsAnswerToSource : Form → SourceView → SourceView → H → Text → H → SinkView → SinkView → Ran D → Type 0
   IsAnswerToSource form source_before source_now shop place shop_now before now ran =
-      (IsEarly before now ran × IsUnread source_before source_now ran.status)
-      ⊎ ((s : ScriptPlan) × ReadsScript source_before.left source_now.left s × IsAnswer view s shop place form shop_now before now ran)
+      (IsEarly before now ran × IsUnread source_before source_now ran.status × (shop_now ≡ shop))
+      ⊎ ((s : ScriptPlan) × ReadsScript source_before.left source_now.left s × IsAnswer view s (shop_view shop) place form (shop_view shop_now) before now ran)
 
   -- what is answered where this script is to be made, over disks of the empty place: there may be no memory for it
-  abbrev pub IsAnswerToMaking : ScriptPlan → Shop → ℕ → SinkView → SinkView → Ran D → Type 0
+  abbrev pub IsAnswerToMaking : ScriptPlan → H → H → SinkView → SinkView → Ran D → Type 0
   IsAnswerToMaking s shop shop_now before now ran =
-      (IsEarly before now ran × (ran.status ≡ status.Memory))
-      ⊎ IsAnswer view s shop [] Summary shop_now before now ran
+      (IsEarly before now ran × (ran.status ≡ status.Memory) × (shop_now ≡ shop))
+      ⊎ IsAnswer view s (shop_view shop) [] Summary (shop_view shop_now) before now ran
 
   -- what is answered to words: there was no script, or one was run, or a trail was audited
-  abbrev pub IsAnswerToWords : List (List ℕ) → SourceView → SourceView → Shop → ℕ → SinkView → SinkView → Ran D → Type 0
+  abbrev pub IsAnswerToWords : List (List ℕ) → SourceView → SourceView → H → H → SinkView → SinkView → Ran D → Type 0
   IsAnswerToWords words source_before source_now shop shop_now before now ran =
-      (IsAudit words × HasAudited source_before source_now before now ran)
-      ⊎ ((IsEarly before now ran × HadNoScript words source_before source_now ran.status)
+      (IsAudit words × HasAudited source_before source_now before now ran × (shop_now ≡ shop))
+      ⊎ ((IsEarly before now ran × HadNoScript words source_before source_now ran.status × (shop_now ≡ shop))
       ⊎ ((s : ScriptPlan) × ((it : RunsScript words source_before.left source_now.left s)
-      × IsAnswer view s shop (place_of it.asked) (form_of it.asked) shop_now before now ran)))
+      × IsAnswer view s (shop_view shop) (place_of it.asked) (form_of it.asked) (shop_view shop_now) before now ran)))

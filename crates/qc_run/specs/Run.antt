@@ -11,7 +11,7 @@ use Rattle.qc_event.specs.declared.event.Entry.{Entry}
 use Rattle.qc_event.specs.declared.table.Table.{Table}
 use Rattle.qc_interp.specs.FollowsScript.{FollowsScript, BeginsScript, started}
 use Rattle.qc_io.specs.Io.{IsAtEnd, Rose, Appends, AppendsFront}
-use Rattle.qc_opening.specs.Images.{Offers}
+use Rattle.qc_opening.specs.Disks.{number_of}
 use Rattle.qc_report.specs.LastValues.{values_by_version}
 use Rattle.qc_report.specs.Report.{Text, report, summary}
 use Rattle.qc_script.specs.MadePlan.{made_plan}
@@ -134,17 +134,12 @@ AllEnded past = IsTrue (list_all (λ n. is_some (end past n)) (started past))
 
 -- THE DISKS
 
--- a shop tells the bytes of all disks of a table: these images
-pub record AllOffered (table : Table) (offers : ℕ → Option (List ℕ)) (images : List (List ℕ)) : Type 0 where
-  pub offered : Offers offers images
-  pub all : length images ≡ table.copies + 1
-
--- The shop, whose count of faults was the one and is the other, failed at the next disk after those that came back; or the disk
--- of this number came back, and its count rose from the one that the shop told.
-abbrev pub IsDiskFault : {D : Type 0} → (D → DiskView) → ℕ → ℕ → (ℕ → ℕ) → List D → ℕ → Type 0
-IsDiskFault {D} view before now counts disks which =
-    ((which ≡ length disks) × DiskRose before now)
-    ⊎ ((disk : D) × (slice_get disks which ≡ Some disk) × DiskRose (counts which) (view disk).faults)
+-- The shop, whose count of faults was the one and is the other, failed at the next disk of so many copies after those that came
+-- back; or the disk of this number came back, and its count rose from the one that the shop told.
+abbrev pub IsDiskFault : {D : Type 0} → (D → DiskView) → ℕ → ℕ → ℕ → (ℕ → ℕ) → List D → ℕ → Type 0
+IsDiskFault {D} view copies before now counts disks which =
+    ((which ≡ number_of copies (length disks)) × DiskRose before now)
+    ⊎ ((place : ℕ) × (disk : D) × (which ≡ number_of copies place) × (slice_get disks place ≡ Some disk) × DiskRose (counts which) (view disk).faults)
 
 -- STATUSES
 

@@ -1,6 +1,5 @@
 //! Runs of a script that is made of a number.
-ghost use Rattle.std.specs.Prelude.{ℕ, List, [], ◌≡◌, ◌++◌, ◌≤◌, length};
-ghost use Rattle.qc_disk.specs.Shop.{TellsAlike, first_disks};
+ghost use Rattle.std.specs.Prelude.{◌≤◌};
 ghost use Rattle.qc_script.specs.MadePlan.{made_plan};
 ghost use Rattle.qc_run.specs.Left as left;
 
@@ -30,13 +29,8 @@ pub(crate) fn make<R: Threads + Wait + Sync, K: Sink, H: Shop, G: Gate + Sync>(
 ) -> Ran<H::D>
 where
     H::D: Drop + Send,
-    ensures answer { left.IsAnswerToMaking H.D.view (made_plan number)
-        (H.view shop.old) (H.view shop.new).faults
+    ensures answer { left.IsAnswerToMaking H.D.view H.view (made_plan number) shop.old shop.new
         (K.view sink.old) (K.view sink.new) result }
-    ensures disks { (p : List ℕ) (n : ℕ) → length result.disks.items ≤ n
-        → TellsAlike (H.view shop.old) (H.view shop.new) p n }
-    ensures gave { (H.view shop.new).gave ≡ (H.view shop.old).gave
-        ++ first_disks [] (length result.disks.items) }
     ensures shop_faults { (H.view shop.old).faults ≤ (H.view shop.new).faults }
 {
     match Script::made(alloc, number) {

@@ -1,7 +1,6 @@
 //! Runs of a script that is there.
-ghost use Rattle.std.specs.Prelude.{ℕ, List, ◌≡◌, ◌++◌, ◌≤◌, length};
+ghost use Rattle.std.specs.Prelude.{◌≤◌};
 ghost use Rattle.qc_codec.specs.Bodies as body;
-ghost use Rattle.qc_disk.specs.Shop.{TellsAlike, first_disks};
 ghost use Rattle.qc_script.specs.Reading.{IsProper};
 ghost use Rattle.qc_script.specs.Steps.{plan_of_script};
 ghost use Rattle.qc_run.specs.Left as left;
@@ -39,12 +38,8 @@ where
     requires proper { IsProper (plan_of_script script.now) }
     requires spelled { (body.table 1).fits script.now.table }
     ensures answer { left.IsAnswer H.D.view (plan_of_script script.now)
-        (H.view shop.old) place.now form (H.view shop.new).faults
+        (H.view shop.old) place.now form (H.view shop.new)
         (K.view sink.old) (K.view sink.new) result }
-    ensures disks { (p : List ℕ) (n : ℕ) → length result.disks.items ≤ n
-        → TellsAlike (H.view shop.old) (H.view shop.new) p n }
-    ensures gave { (H.view shop.new).gave ≡ (H.view shop.old).gave
-        ++ first_disks place.now (length result.disks.items) }
     ensures shop_faults { (H.view shop.old).faults ≤ (H.view shop.new).faults }
 {
     match run_stored(rt, alloc, shop, place, script, JOURNAL_LIMIT, gate, mode) {

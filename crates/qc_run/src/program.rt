@@ -1,17 +1,18 @@
 //! The top call: all that the program does, over the streams and the shop of disks that it is handed.
-ghost use Rattle.std.specs.Prelude.{ℕ, List, ⊤, ◌++◌, ◌≡◌, ◌≤◌, ◌⊎◌, [], length, map, reverse, string_bytes, IfSome};
-ghost use Rattle.qc_disk.specs.Shop.{TellsAlike, first_disks};
+ghost use Rattle.std.specs.Prelude.{ℕ, List, ⊤, ◌++◌, ◌≡◌, ◌≢◌, ◌≤◌, ◌⊎◌, [], All, length, map, reverse, string_bytes, IfSome};
+ghost use Rattle.qc_disk.specs.Shop.{TellsAlike, disks_of_place};
 ghost use Rattle.qc_event.specs.History.{Name, limit};
 ghost use Rattle.qc_event.specs.Legal.{Legal};
 ghost use Rattle.qc_event.specs.Sound.{IsSound};
 ghost use Rattle.qc_event.specs.Tables.{base_of, first_values, setting_of};
 ghost use Rattle.qc_io.specs.Io.{Rose, Keeps, Appends, AppendsFront, Drops, LosesWithin};
-ghost use Rattle.qc_opening.specs.Images.{AreSound, IsFirstFault};
+ghost use Rattle.qc_opening.specs.Disks.{by_place, first_numbers};
+ghost use Rattle.qc_opening.specs.Images.{AreSound, IsFirstFault, Offers};
+ghost use Rattle.qc_opening.specs.Pairs.{HaveNoGrantsInPairs};
 ghost use Rattle.qc_opening.specs.Stored.{AllTell, AreImages, HaveGrown, HavePaid, UnablesHadCause};
-ghost use Rattle.qc_refine.specs.Images.{IsStandingWithin, Restores};
+ghost use Rattle.qc_refine.specs.Pairs.{RestoreInPairs, StandInPairsWithin};
 ghost use Rattle.qc_script.specs.Plan.{ScriptPlan};
 ghost use Rattle.qc_script.specs.Reading.{IsScript};
-ghost use Rattle.qc_opening.specs.Mountings.{HaveNoGrants};
 ghost use Rattle.qc_codec.specs.declared.image.BadImage.{BadImage};
 ghost use Rattle.qc_run.specs.Audit as audits;
 ghost use Rattle.qc_run.specs.Left as left;
@@ -45,8 +46,8 @@ fn answer<R: Threads + Wait + Sync, S: Source, K: Sink, H: Shop, G: Gate + Sync>
 ) -> Ran<H::D>
 where
     H::D: Drop + Send,
-    ensures answer { left.IsAnswerToWords H.D.view (map string_bytes words.now)
-        (S.view source.old) (S.view source.new) (H.view shop.old) (H.view shop.new).faults
+    ensures answer { left.IsAnswerToWords H.D.view H.view (map string_bytes words.now)
+        (S.view source.old) (S.view source.new) shop.old shop.new
         (K.view sink.old) (K.view sink.new) result }
     ensures no_command { line.IsNoCommand (map string_bytes words.now)
         → terms.IsOrMemory Status.Usage result.status × (source.new ≡ source.old)
@@ -61,11 +62,6 @@ where
     ensures audited { line.IsAudit (map string_bytes words.now)
         → left.HasAudited (S.view source.old) (S.view source.new) (K.view sink.old)
         (K.view sink.new) result × (shop.new ≡ shop.old) }
-    ensures disks { (p : List ℕ) (n : ℕ) → length result.disks.items ≤ n
-        → TellsAlike (H.view shop.old) (H.view shop.new) p n }
-    ensures gave { line.AtPlace (map string_bytes words.now) (λ place.
-        (H.view shop.new).gave ≡ (H.view shop.old).gave
-        ++ first_disks place (length result.disks.items)) }
     ensures shop_faults { (H.view shop.old).faults ≤ (H.view shop.new).faults }
 {
     match command_of(words) {
@@ -79,11 +75,11 @@ where
 }
 
 /// Does what the words of the command line say, over these streams and this shop: `run` reads a script from
-/// the source, runs its sessions over the copies of its records, whose disks it obtains from the shop at the
-/// place that `--dir` names, by a network that loses, delays and repeats requests as the script says, and
-/// writes the report, or with `--trail` the saved trail. Sessions run in threads of their own, or one after
-/// another with `--serial`; each passes the gate before its first top. `gen` with a number makes the script of
-/// that number, and leaves the source alone; it runs that script likewise, one session after another, over the
+/// the source, runs its sessions over the copies of its records, whose disks it obtains, each with a spare, from
+/// the shop at the place that `--dir` names, by a network that loses, delays and repeats requests as the script
+/// says, and writes the report, or with `--trail` the saved trail. Sessions run in threads of their own, or one
+/// after another with `--serial`; each passes the gate before its first top. `gen` with a number makes the script
+/// of that number, and leaves the source alone; it runs that script likewise, one session after another, over the
 /// disks of the place without a name, and writes the summary. `audit` reads a saved trail from the source, and
 /// writes whether its history is legal, and its serial order. All other words are refused with the usage line.
 ///
@@ -153,17 +149,19 @@ where
     ensures restores { terms.OfRun (map string_bytes words.now) (S.view source.old).left
         (S.view source.new).left result
         (λ s. line.AtPlace (map string_bytes words.now) (λ place. (images : List (List ℕ))
-        → terms.AllOffered s.table ((H.view shop.old).offers place) images
-        → Restores s.table images result.start)) }
+        → Offers s.table ((H.view shop.old).offers place) images
+        → RestoreInPairs s.table images result.start)) }
     ensures first_start { terms.OfRun (map string_bytes words.now) (S.view source.old).left
         (S.view source.new).left result
         (λ s. line.AtPlace (map string_bytes words.now)
-        (λ place. HaveNoGrants s.table ((H.view shop.old).offers place)
+        (λ place. HaveNoGrantsInPairs s.table
+        (by_place s.table.copies ((H.view shop.old).offers place))
         → result.start ≡ base_of s.table)) }
     ensures sound_start { terms.OfRun (map string_bytes words.now) (S.view source.old).left
         (S.view source.new).left result
         (λ s. line.AtPlace (map string_bytes words.now)
-        (λ place. HaveNoGrants s.table ((H.view shop.old).offers place)
+        (λ place. HaveNoGrantsInPairs s.table
+        (by_place s.table.copies ((H.view shop.old).offers place))
         → IsSound (setting_of s.table result.start) (first_values s.table))) }
 
     // Where all disks told their bytes, whatever a crash leaves of those that come back stands beside the history, in
@@ -173,41 +171,50 @@ where
         (λ s. (epoch : ℕ)
         × terms.BeginsIn epoch s result.trail
         × line.AtPlace (map string_bytes words.now)
-        (λ place. AllTell s.table.copies ((H.view shop.old).offers place)
+        (λ place. AllTell s.table.copies
+        (by_place s.table.copies ((H.view shop.old).offers place))
         → (images : List (List ℕ)) → AreImages H.D.view result.disks.items images
-        → ∥ IsStandingWithin 1 s.table result.start epoch (reverse result.trail) images ∥₁)) }
-    // At each moment since a disk was mounted, where it told its bytes, a crash left the records that it had then, and
-    // behind them those of the history up to some time, with at most one more, which could come next then. Of two such
-    // moments each image of the later had every record that all images of the earlier had. Before, a crash left of the
-    // disk what it left of it as it was when it had been mounted.
+        → ∥ StandInPairsWithin 1 s.table result.start epoch (reverse result.trail) images ∥₁)) }
+    // At each moment since the active disk of a pair was mounted, where it told its bytes, a crash left the records that it
+    // had then, and behind them those of the history up to some time, with at most one more, which could come next then. Of
+    // two such moments each image of the later had every record that all images of the earlier had. Before, a crash left of
+    // the disk what it left of it as it was when it had been mounted. The other disk of a pair kept what it had.
     ensures images_grow { terms.OfRun (map string_bytes words.now) (S.view source.old).left
         (S.view source.new).left result
         (λ s. (epoch : ℕ)
         × terms.BeginsIn epoch s result.trail
         × line.AtPlace (map string_bytes words.now)
-        (λ place. HaveGrown H.D.view s.table ((H.view shop.old).offers place) epoch
+        (λ place. HaveGrown H.D.view s.table
+        (by_place s.table.copies ((H.view shop.old).offers place)) epoch
         result.start result.disks.items (reverse result.trail))) }
 
-    // Each failure that someone was unable for, a disk has counted since the shop gave it.
+    // Each failure that someone was unable for, the active disk of a pair has counted since the shop gave it.
     ensures paid { terms.OfRun (map string_bytes words.now) (S.view source.old).left
         (S.view source.new).left result
-        (λ s. line.AtPlace (map string_bytes words.now) (λ place. HavePaid H.D.view
-        ((H.view shop.old).counts place) result.disks.items (reverse result.trail))) }
+        (λ s. (epoch : ℕ)
+        × terms.BeginsIn epoch s result.trail
+        × line.AtPlace (map string_bytes words.now)
+        (λ place. HavePaid H.D.view s.table
+        (by_place s.table.copies ((H.view shop.old).offers place))
+        (by_place s.table.copies ((H.view shop.old).counts place)) epoch
+        result.start result.disks.items (reverse result.trail))) }
 
-    // Where the ledger's disk told its bytes: each top that the ledger was unable to log for want of room would with its
-    // record, behind those of the mounting and of the tops that were committed until then, have passed the longest journal.
-    // Where a copy's disk did: so would each request that it was unable to serve for want of room, with the record of a
-    // grant that it might have made of it when it had made those until then; and the copy was never strange.
+    // Where the ledger's active disk told its bytes: each top that the ledger was unable to log for want of room would with
+    // its record, behind those of the mounting and of the tops that were committed until then, have passed the longest
+    // journal. Where a copy's active disk did: so would each request that it was unable to serve for want of room, with the
+    // record of a grant that it might have made of it when it had made those until then; and the copy was never strange.
     ensures unable { terms.OfRun (map string_bytes words.now) (S.view source.old).left
         (S.view source.new).left result
         (λ s. (epoch : ℕ)
         × terms.BeginsIn epoch s result.trail
         × line.AtPlace (map string_bytes words.now)
-        (λ place. UnablesHadCause s.table terms.journal_limit ((H.view shop.old).offers place)
+        (λ place. UnablesHadCause s.table terms.journal_limit
+        (by_place s.table.copies ((H.view shop.old).offers place))
         epoch result.start (reverse result.trail))) }
 
-    // The disks that come back are all that the shop gave: those of the place, from 0 on. None was where there was no
-    // script. A mounting that was refused leaves each as it says, also where memory was wanting.
+    // The disks that come back are all that the shop gave, in the order of their places: those of all pairs, and then their
+    // spares. None was where there was no script, and the shop tells of all others as before. A mounting that was refused
+    // leaves each as it says, also where memory was wanting.
     ensures come_back { terms.IsNotMounted result.status
         → terms.OfScript (map string_bytes words.now) (S.view source.old).left
         (S.view source.new).left
@@ -219,10 +226,15 @@ where
         (λ s. line.AtPlace (map string_bytes words.now) (λ place. left.CameBack H.D.view s
         (H.view shop.old) place result.disks.items)) }
     ensures none_obtained { terms.HadNone result.status → result.disks.items ≡ [] }
-    ensures disks { line.AtPlace (map string_bytes words.now) (λ place.
-        (H.view shop.new).gave ≡ (H.view shop.old).gave
-        ++ first_disks place (length result.disks.items)) }
-    ensures offers { (place : List ℕ) (n : ℕ) → length result.disks.items ≤ n
+    ensures disks { ((result.disks.items ≡ []) × (shop.new ≡ shop.old))
+        ⊎ terms.OfScript (map string_bytes words.now) (S.view source.old).left
+        (S.view source.new).left
+        (λ s. line.AtPlace (map string_bytes words.now) (λ place.
+        (H.view shop.new).gave ≡ (H.view shop.old).gave ++ disks_of_place place
+        (first_numbers s.table.copies (length result.disks.items)))) }
+    ensures offers { (more : List (List ℕ × ℕ))
+        → (H.view shop.new).gave ≡ (H.view shop.old).gave ++ more
+        → (place : List ℕ) (n : ℕ) → All (λ given. n ≢ given.1) more
         → TellsAlike (H.view shop.old) (H.view shop.new) place n }
 
     // The bytes written are the report, or the summary where the script was made; a front of it, a fault's line, or none.
@@ -279,25 +291,25 @@ where
         → terms.OfScript (map string_bytes words.now) (S.view source.old).left
         (S.view source.new).left
         (λ s. line.AtPlace (map string_bytes words.now) (λ place. terms.IsDiskFault H.D.view
-        (H.view shop.old).faults (H.view shop.new).faults ((H.view shop.old).counts place)
-        result.disks.items which)) }
+        s.table.copies (H.view shop.old).faults (H.view shop.new).faults
+        ((H.view shop.old).counts place) result.disks.items which)) }
     ensures image_fault { (bad : BadImage) → result.status ≡ Status.Image bad
         → terms.OfScript (map string_bytes words.now) (S.view source.old).left
         (S.view source.new).left
         (λ s. line.AtPlace (map string_bytes words.now) (λ place. (images : List (List ℕ))
-        → terms.AllOffered s.table ((H.view shop.old).offers place) images
+        → Offers s.table ((H.view shop.old).offers place) images
         → IsFirstFault s.table terms.journal_limit bad images)) }
     ensures sound_images { (s : ScriptPlan) (images : List (List ℕ))
         → terms.AsksFor (map string_bytes words.now) (S.view source.old).left s
         → line.AtPlace (map string_bytes words.now)
-        (λ place. terms.AllOffered s.table ((H.view shop.old).offers place) images
+        (λ place. Offers s.table ((H.view shop.old).offers place) images
         → AreSound s.table terms.journal_limit images
         → (bad : BadImage) → result.status ≡ Status.Image bad → ⊥) }
     ensures mounted_images { terms.HadSession result.status
         → terms.UnlessAudit (map string_bytes words.now) (terms.OfScript
         (map string_bytes words.now) (S.view source.old).left (S.view source.new).left
         (λ s. line.AtPlace (map string_bytes words.now) (λ place. (images : List (List ℕ))
-        → terms.AllOffered s.table ((H.view shop.old).offers place) images
+        → Offers s.table ((H.view shop.old).offers place) images
         → AreSound s.table terms.journal_limit images))) }
     ensures room { result.status ≡ Status.Room → length result.trail ≡ limit }
     ensures source_faults { (S.view source.old).faults ≤ (S.view source.new).faults }
@@ -325,9 +337,10 @@ where
         → line.AtPlace (map string_bytes words.now)
         (λ place. (Rose (S.view source.old).faults (S.view source.new).faults → ⊥)
         → (Rose (K.view sink.old).faults (K.view sink.new).faults → ⊥)
-        → (result.start ≡ [] → (which : ℕ) → terms.IsDiskFault H.D.view (H.view shop.old).faults
-        (H.view shop.new).faults ((H.view shop.old).counts place) result.disks.items which → ⊥)
-        → terms.AllOffered s.table ((H.view shop.old).offers place) images
+        → (result.start ≡ [] → (which : ℕ) → terms.IsDiskFault H.D.view s.table.copies
+        (H.view shop.old).faults (H.view shop.new).faults ((H.view shop.old).counts place)
+        result.disks.items which → ⊥)
+        → Offers s.table ((H.view shop.old).offers place) images
         → AreSound s.table terms.journal_limit images
         → terms.IsSessionRun result.status) }
 {

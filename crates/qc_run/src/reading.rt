@@ -1,6 +1,5 @@
 //! Runs of a script that the source holds.
-ghost use Rattle.std.specs.Prelude.{ℕ, List, ◌≡◌, ◌++◌, ◌≤◌, length, IfOk, IfErr};
-ghost use Rattle.qc_disk.specs.Shop.{TellsAlike, first_disks};
+ghost use Rattle.std.specs.Prelude.{◌≤◌, IfOk, IfErr};
 ghost use Rattle.qc_io.specs.Io.{Drops, LosesWithin};
 ghost use Rattle.qc_run.specs.Left as left;
 ghost use Rattle.qc_run.specs.Run as terms;
@@ -44,13 +43,8 @@ fn over<R: Threads + Wait + Sync, K: Sink, H: Shop, G: Gate + Sync>(
 ) -> Ran<H::D>
 where
     H::D: Drop + Send,
-    ensures answer { left.IsAnswerToBytes H.D.view form bytes.items
-        (H.view shop.old) place.now (H.view shop.new).faults
-        (K.view sink.old) (K.view sink.new) result }
-    ensures disks { (p : List ℕ) (n : ℕ) → length result.disks.items ≤ n
-        → TellsAlike (H.view shop.old) (H.view shop.new) p n }
-    ensures gave { (H.view shop.new).gave ≡ (H.view shop.old).gave
-        ++ first_disks place.now (length result.disks.items) }
+    ensures answer { left.IsAnswerToBytes H.D.view H.view form bytes.items shop.old place.now
+        shop.new (K.view sink.old) (K.view sink.new) result }
     ensures shop_faults { (H.view shop.old).faults ≤ (H.view shop.new).faults }
 {
     match script_of(alloc, bytes) {
@@ -77,18 +71,14 @@ pub(crate) fn read<R: Threads + Wait + Sync, S: Source, K: Sink, H: Shop, G: Gat
 ) -> Ran<H::D>
 where
     H::D: Drop + Send,
-    ensures answer { left.IsAnswerToSource H.D.view form (S.view source.old) (S.view source.new)
-        (H.view shop.old) place.now (H.view shop.new).faults
-        (K.view sink.old) (K.view sink.new) result }
+    ensures answer { left.IsAnswerToSource H.D.view H.view form (S.view source.old)
+        (S.view source.new) shop.old place.now shop.new (K.view sink.old) (K.view sink.new)
+        result }
     ensures source_faults { (S.view source.old).faults ≤ (S.view source.new).faults }
     ensures source_taken { terms.ReadWhole result.status
         → Drops (S.view source.old).left (S.view source.new).left terms.most_taken }
     ensures source_within { LosesWithin (S.view source.old).left (S.view source.new).left
         terms.most_taken }
-    ensures disks { (p : List ℕ) (n : ℕ) → length result.disks.items ≤ n
-        → TellsAlike (H.view shop.old) (H.view shop.new) p n }
-    ensures gave { (H.view shop.new).gave ≡ (H.view shop.old).gave
-        ++ first_disks place.now (length result.disks.items) }
     ensures shop_faults { (H.view shop.old).faults ≤ (H.view shop.new).faults }
 {
     match take_all(alloc, source, MOST_BYTES) {

@@ -1,17 +1,15 @@
-use Rattle.std.proofs.Common.{◌≡◌, map, ap, refl}
+use Rattle.std.proofs.Common.{map, ap, refl}
 use Rattle.std.specs.Prelude.{Some, string_bytes}
-use Rattle.qc_io.specs.Io.{LosesWithin}
 use Rattle.qc_run.specs.Commands.{asked_by}
-use Rattle.qc_run.specs.Run.{most_taken_for}
 use Rattle.qc_run.specs.Words.{Asked}
-use Rattle.qc_run.proofs.Asking.{by_audit, by_making, by_reading, makes_no_trail, none_found, not_audit, not_making, not_reading, reads_alone, reads_no_trail}
-use Rattle.qc_run.proofs.Clauses.{as_asked, at_place}
+use Rattle.qc_run.proofs.Asking.{by_audit, by_making, by_reading, makes_no_trail, none_found, not_audit, not_reading, reads_alone, reads_no_trail}
+use Rattle.qc_run.proofs.Clauses.{as_asked}
 use Rattle.qc_run.proofs.program.answer.Goals as goal
 
 pub returns-in-Some-Run-clause-answer : goal.returns-in-Some-Run-clause-answer
 returns-in-Some-Run-clause-answer g c =
     let asked = Asked.read_at c.in-Some-Run.place.now c.in-Some-Run.mode c.in-Some-Run.form in
-    by_reading g.H.D.Disk.view (map string_bytes c.args.words.now) _ _ (g.H.Shop.view c.args.shop.now) _ _ _ _ c.in-Some-Run.place.now c.in-Some-Run.mode c.in-Some-Run.form
+    by_reading g.H.D.Disk.view g.H.Shop.view (map string_bytes c.args.words.now) _ _ _ _ _ _ _ c.in-Some-Run.place.now c.in-Some-Run.mode c.in-Some-Run.form
     ((c.in-Some-Run.ensures asked).0 (ap (λ x. Some (asked_by x)) c.in-Some-Run.field-0-is)) c.read.ensures.answer
 
 pub returns-in-Some-Run-clause-no_command : goal.returns-in-Some-Run-clause-no_command
@@ -39,7 +37,7 @@ returns-in-Some-Run-clause-audited g c = λ audit.
 pub returns-in-Some-Gen-clause-answer : goal.returns-in-Some-Gen-clause-answer
 returns-in-Some-Gen-clause-answer g c =
     let number = c.in-Some-Gen.number in
-    by_making g.H.D.Disk.view (map string_bytes c.args.words.now) _ _ (g.H.Shop.view c.args.shop.now) _ _ _ _ number
+    by_making g.H.D.Disk.view g.H.Shop.view (map string_bytes c.args.words.now) _ _ _ _ _ _ _ number
     ((c.in-Some-Gen.ensures (Asked.made_of number)).0 (ap (λ x. Some (asked_by x)) c.in-Some-Gen.field-0-is)) c.make.ensures.answer
 
 pub returns-in-Some-Gen-clause-no_command : goal.returns-in-Some-Gen-clause-no_command
@@ -59,8 +57,8 @@ returns-in-Some-Gen-clause-audited g c = λ audit.
 
 pub returns-in-Some-Audit-clause-answer : goal.returns-in-Some-Audit-clause-answer
 returns-in-Some-Audit-clause-answer g c =
-    by_audit g.H.D.Disk.view (map string_bytes c.args.words.now) _ _ (g.H.Shop.view c.args.shop.now) _ _ _ _
-    ((c.in-Some-Audit.ensures Asked.audit).0 (ap (λ x. Some (asked_by x)) c.in-Some-Audit.field-0-is)) c.audit_source.ensures.audited
+    by_audit g.H.D.Disk.view g.H.Shop.view (map string_bytes c.args.words.now) _ _ _ _ _ _ _
+    ((c.in-Some-Audit.ensures Asked.audit).0 (ap (λ x. Some (asked_by x)) c.in-Some-Audit.field-0-is)) c.audit_source.ensures.audited refl
 
 pub returns-in-Some-Audit-clause-no_command : goal.returns-in-Some-Audit-clause-no_command
 returns-in-Some-Audit-clause-no_command g c = λ none.
