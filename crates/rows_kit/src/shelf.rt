@@ -6,20 +6,36 @@ use qc_disk::{FailAt, MemDisk, MemShop};
 use std::alloc::{AllocError, Global};
 use std::mem;
 
-/// What a disk is made of: its bytes, and the calls at which it fails.
+/// How many disks a store may have: a ledger's, those of sixteen copies, and a spare for each.
+const DISKS: u8 = 34;
+
+/// The number of the first spare, which is the ledger's.
+const SPARES: u8 = 17;
+
+/// What a disk is made of: its number, its bytes, and the calls at which it fails.
 #[derive(Drop)]
 pub struct Blank {
+    pub which: u8,
     pub bytes: Vec<u8>,
     fails: Vec<FailAt>,
 }
 
-/// The disks that the next shop has, at which numbers it fails, and the bytes of the disks that came back last.
+/// The disks that the next shop has, at which numbers it fails, and the disks that came back last.
 #[derive(Drop)]
 pub struct Shelf {
     alloc: Global,
     blanks: Vec<Blank>,
     shop_fails: Vec<u8>,
-    back: Vec<Vec<u8>>,
+    back: Vec<Blank>,
+}
+
+// A disk of these bytes that does not fail.
+fn blank_of(alloc: Global, which: u8, bytes: Vec<u8>) -> Blank {
+    Blank {
+        which,
+        bytes,
+        fails: Vec::new(alloc),
+    }
 }
 
 impl Shelf {
@@ -58,24 +74,16 @@ impl Shelf {
         Ok(Some(there))
     }
 
-    // Adds a disk of these bytes that does not fail.
-    fn add(&mut self, bytes: Vec<u8>) -> Result<(), AllocError> {
-        self.blanks.push(Blank {
-            bytes,
-            fails: Vec::new(self.alloc),
-        })?;
-        Ok(())
-    }
-
-    // The disk of a number, with empty ones before it; there are at most 17.
+    // The disk of a number, an empty one where there was none.
     fn blank(&mut self, which: u8) -> Result<Option<&mut Blank>, AllocError> {
-        if which > 16 {
+        if which >= DISKS {
             return Ok(None);
         }
-        for _ in self.blanks.len()..usize::from(which) + 1 {
-            self.add(Vec::new(self.alloc))?;
+        if !self.blanks.iter().any(|blank| blank.which == which) {
+            let bytes = Vec::new(self.alloc);
+            self.blanks.push(blank_of(self.alloc, which, bytes))?;
         }
-        Ok(self.blanks.get_mut(usize::from(which)))
+        Ok(self.blanks.iter_mut().find(|blank| blank.which == which))
     }
 
     // Gives a disk bytes, where there is one of the number.
@@ -104,33 +112,53 @@ impl Shelf {
     /// The disks are those that came back last.
     pub fn keep(&mut self) -> Result<(), AllocError> {
         self.blanks = Vec::new(self.alloc);
-        for bytes in mem::replace(&mut self.back, Vec::new(self.alloc)) {
-            self.add(bytes)?;
+        for back in mem::replace(&mut self.back, Vec::new(self.alloc)) {
+            self.fill(back.which, back.bytes)?;
         }
         Ok(())
     }
 
-    /// A shop of the disks. The shop behind it has empty ones.
+    /// A shop of the disks, with empty ones of the other numbers. The shop behind it has empty ones.
     pub fn shop(&mut self) -> Result<MemShop, AllocError> {
         let mut disks = Vec::new(self.alloc);
+        for _ in 0..DISKS {
+            disks.push(MemDisk::new(Vec::new(self.alloc), Vec::new(self.alloc)))?;
+        }
         for blank in mem::replace(&mut self.blanks, Vec::new(self.alloc)) {
-            disks.push(MemDisk::new(blank.bytes, blank.fails))?;
+            if let Some(disk) = disks.get_mut(usize::from(blank.which)) {
+                *disk = MemDisk::new(blank.bytes, blank.fails);
+            }
         }
         let fails = mem::replace(&mut self.shop_fails, Vec::new(self.alloc));
         Ok(MemShop::new(disks, fails))
     }
 
-    /// Takes the bytes of the disks that came back.
-    pub fn take_back(&mut self, disks: &[MemDisk]) -> Result<(), AllocError> {
-        self.back = Vec::new(self.alloc);
-        for disk in disks {
-            self.back.push(disk.bytes().to_vec(self.alloc)?)?;
+    // Adds disks that came back, which have the numbers from this one on.
+    fn add_back(&mut self, first: u8, disks: &[MemDisk]) -> Result<(), AllocError> {
+        for (which, disk) in (first..DISKS).zip(disks) {
+            let bytes = disk.bytes().to_vec(self.alloc)?;
+            self.back.push(blank_of(self.alloc, which, bytes))?;
         }
         Ok(())
     }
 
-    /// The bytes of the disks that came back last.
-    pub fn back(&self) -> &[Vec<u8>] {
+    /// Takes the bytes of the disks that came back, which have the numbers from 0 on.
+    pub fn take_back(&mut self, disks: &[MemDisk]) -> Result<(), AllocError> {
+        self.back = Vec::new(self.alloc);
+        self.add_back(0, disks)
+    }
+
+    /// Takes the bytes of the disks that came back of a store of so many copies: behind those of the ledger and the copies
+    /// stand their spares.
+    pub fn take_back_store(&mut self, copies: u8, disks: &[MemDisk]) -> Result<(), AllocError> {
+        let pairs = disks.len().min(usize::from(copies) + 1);
+        let (disks, spares) = disks.split_at(pairs);
+        self.take_back(disks)?;
+        self.add_back(SPARES, spares)
+    }
+
+    /// The disks that came back last.
+    pub fn back(&self) -> &[Blank] {
         &self.back
     }
 

@@ -3,7 +3,6 @@
 use qc_config::Tuple;
 use qc_disk::Disk;
 use qc_opening::Parts;
-use qc_site::Mounted;
 use rows_kit::tuple;
 use std::alloc::{AllocError, Global};
 
@@ -16,10 +15,10 @@ fn put_start(alloc: Global, text: &mut String, tuples: &[Tuple]) -> Result<(), A
     Ok(())
 }
 
-fn starts<D: Disk>(alloc: Global, copies: &[Mounted<D>]) -> Result<String, AllocError> {
+fn starts<D: Disk>(alloc: Global, parts: &Parts<D>) -> Result<String, AllocError> {
     let mut text = String::new(alloc);
-    for copy in copies {
-        put_start(alloc, &mut text, copy.start())?;
+    for pair in parts.copies.as_slice() {
+        put_start(alloc, &mut text, pair.copy.start())?;
     }
     Ok(text)
 }
@@ -27,7 +26,7 @@ fn starts<D: Disk>(alloc: Global, copies: &[Mounted<D>]) -> Result<String, Alloc
 /// The epoch and the number of tops that were logged before, and what each copy starts with.
 pub(crate) fn store<D: Disk>(alloc: Global, parts: &Parts<D>) -> Result<String, AllocError> {
     let (epoch, tops) = (parts.epoch, parts.past.tops.as_slice().len());
-    let starts = starts(alloc, parts.copies.as_slice())?;
+    let starts = starts(alloc, parts)?;
     format!(in alloc; "epoch {epoch}, {tops} tops{starts}")
 }
 

@@ -30,16 +30,17 @@ impl StoreCase {
         };
         let mut shop = self.shelf.shop()?;
         let (text, mut disks) = mounted(self.alloc, &mut shop, "", &made, step.number(0))?;
-        self.shelf.take_back(&disks)?;
+        self.shelf.take_back_store(made.table.copies, &disks)?;
         self.shelf.keep()?;
         with_lengths(self.alloc, text, &mut disks)
     }
 
-    // The bytes of each disk.
+    // The number and the bytes of each disk.
     fn bytes(&self) -> Result<String, AllocError> {
         let mut text = String::new(self.alloc);
         for blank in self.shelf.blanks() {
-            text.push_str(" / ")?;
+            let which = blank.which;
+            text.push_str(format!(in self.alloc; " / {which} ")?.as_str())?;
             put_hex(self.alloc, &mut text, &blank.bytes)?;
         }
         Ok(text)

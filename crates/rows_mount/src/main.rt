@@ -1,14 +1,15 @@
 //! Rows of stores that are mounted. Each line is a case: steps with `;` between, each printed with what it answered. A
 //! line that begins with `#`, or an empty one, is printed as it is.
 //!
-//! A case has disks in memory, which are empty at first. BODY is a record's body in hex.
+//! A case has disks in memory, which are empty at first; disk 17 + N is the spare of disk N. BODY is a record's body in
+//! hex.
 //! - `image N BODY ..`: disk N is a journal of these records.
 //! - `bytes N HEX`: disk N has these bytes.
 //! - `fail N CALL done CALL not ..`: disk N fails at these calls, its work done or not.
 //! - `shop N ..`: the shop fails at these numbers.
 //! - `mount LIMIT MADE`: mounts the store over the table of which MADE, a body, tells, from a shop of the disks. The disks
 //!   that come back are those of the case then.
-//! - `disks`: the bytes of each disk.
+//! - `disks`: the number and the bytes of each disk.
 //! - `folder NAME`, `remove NAME`: makes or removes a folder.
 //! - `home PLACE LIMIT MADE`: mounts a store from the real shop; a stroke is no place.
 #![tactic(auto)]

@@ -4,19 +4,40 @@ ghost use Rattle.qc_codec.specs.Bodies as body;
 use crate::answer::{failed, store};
 use qc_codec::Made;
 use qc_disk::{Disk, Shop};
-use qc_opening::{MountNo, Parts, mount};
+use qc_opening::{MountNo, Parts, mount_disks, obtain_all};
 use rows_kit::said;
 use std::alloc::{AllocError, Global};
 
-// The disks of a store, in the order of their numbers.
+// The disks of a store: those of all pairs, and then their spares.
 fn disks_of<D: Disk + Drop>(alloc: Global, parts: Parts<D>) -> Result<Vec<D>, AllocError> {
-    let Parts { book, copies, .. } = parts;
-    let mut disks = Vec::new(alloc);
-    disks.push(book.into_disk())?;
+    let Parts { ledger, copies, .. } = parts;
+    let (disk, spare) = ledger.into_disks();
+    let (mut disks, mut spares) = (Vec::new(alloc), Vec::new(alloc));
+    disks.push(disk)?;
+    spares.push(spare)?;
     for copy in copies {
-        disks.push(copy.into_disk())?;
+        let (disk, spare) = copy.into_disks();
+        disks.push(disk)?;
+        spares.push(spare)?;
+    }
+    for spare in spares {
+        disks.push(spare)?;
     }
     Ok(disks)
+}
+
+// Obtains the disks of a store, and mounts it over the table of a made record.
+fn mount<D: Disk + Send, H: Shop<D = D>>(
+    alloc: Global,
+    shop: &mut H,
+    place: &str,
+    made: &Made,
+    limit: u64,
+) -> Result<Parts<D>, MountNo<D>>
+    requires { (body.table 1).fits made.now.table }
+{
+    let disks = obtain_all(alloc, shop, place, made.table.copies)?;
+    mount_disks(alloc, disks, &made.table, limit)
 }
 
 /// Mounts a store over the table of a made record: what came, and the disks.
@@ -29,7 +50,7 @@ pub(crate) fn mounted<D: Disk + Send + Drop, H: Shop<D = D>>(
 ) -> Result<(String, Vec<D>), AllocError>
     requires { (body.table 1).fits made.now.table }
 {
-    match mount(alloc, shop, place, &made.table, limit) {
+    match mount(alloc, shop, place, made, limit) {
         Ok(parts) => {
             let text = store(alloc, &parts)?;
             Ok((text, disks_of(alloc, parts)?))

@@ -2,6 +2,7 @@
 use qc_disk::MemDisk;
 use qc_run::io::{MemSink, MemSource};
 use qc_run::{NoGate, Ran, run};
+use qc_script::{BadScript, Script};
 use rows_kit::Shelf;
 use std::alloc::{AllocError, Global};
 use std::sync::Wait;
@@ -59,6 +60,7 @@ impl<'l> Case<'l> {
         shelf: &mut Shelf,
     ) -> Result<Outcome, AllocError> {
         let script = bytes_of(alloc, self.script, self.length)?;
+        let copies = copies_of(alloc, self.words, script.as_slice());
         let words = words_of(alloc, self.words)?;
         let mut source = MemSource::new(script, vec![in alloc; self.source_fails]?);
         let mut sink = MemSink::new(alloc, vec![in alloc; self.sink_fails]?);
@@ -72,8 +74,24 @@ impl<'l> Case<'l> {
             &mut shop,
             &NoGate,
         );
-        shelf.take_back(&ran.disks)?;
+        shelf.take_back_store(copies, &ran.disks)?;
         Ok(Outcome { ran, sink })
+    }
+}
+
+// The script that is run: the one that the bytes are, or the one that is made of a number.
+fn script_of(alloc: Global, words: &str, bytes: &[u8]) -> Result<Script, BadScript> {
+    match words.strip_prefix("gen ") {
+        Some(number) => Ok(Script::made(alloc, number.parse::<u64>().unwrap_or(0))?),
+        None => Script::read(alloc, bytes),
+    }
+}
+
+// How many copies it has. Where there is none, no disk is asked for.
+fn copies_of(alloc: Global, words: &str, bytes: &[u8]) -> u8 {
+    match script_of(alloc, words, bytes) {
+        Ok(script) => script.table.copies,
+        Err(_) => 0,
     }
 }
 

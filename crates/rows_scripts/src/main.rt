@@ -11,9 +11,9 @@
 //! - `fail N CALL done CALL not ..`: disk N fails at these calls, its work done or not.
 //! - `shop N ..`: the shop fails at these numbers.
 //!
-//! A line `bytes:` prints what the disks that came back from the last case have, in hex. A line `gen N` runs that command
-//! over a source that fails when it is read, and `text N SCRIPT` tells whether the script made of N is the one that the
-//! text is.
+//! Disk 17 + N is the spare of disk N. A line `bytes:` prints what the disks that came back from the last case have, in
+//! hex. A line `gen N` runs that command over a source that fails when it is read, and `text N SCRIPT` tells whether the
+//! script made of N is the one that the text is.
 #![tactic(auto)]
 
 mod case;

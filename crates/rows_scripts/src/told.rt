@@ -1,6 +1,7 @@
 //! What is printed of a run.
 use crate::case::Outcome;
 use qc_event::{Entry, Event, Kind, Op};
+use rows_kit::Blank;
 use std::alloc::Global;
 use std::io;
 
@@ -30,10 +31,11 @@ pub(crate) fn print_text(rt: &HostRuntime, bytes: &[u8]) -> io::Result<()> {
     }
 }
 
-/// Prints the bytes of disks in their order, in hex.
-pub(crate) fn print_disks(rt: &HostRuntime, alloc: Global, disks: &[Vec<u8>]) -> io::Result<()> {
-    for (which, bytes) in disks.iter().enumerate() {
-        println!(rt; "disk {which} {}", hex::encode(alloc, bytes.as_slice())?)?;
+/// Prints the bytes of disks in hex, each behind its number.
+pub(crate) fn print_disks(rt: &HostRuntime, alloc: Global, disks: &[Blank]) -> io::Result<()> {
+    for disk in disks {
+        let (which, bytes) = (disk.which, hex::encode(alloc, disk.bytes.as_slice())?);
+        println!(rt; "disk {which} {bytes}")?;
     }
     Ok(())
 }

@@ -39,7 +39,7 @@ impl Gate for Crossing {
 }
 
 impl Watch for Crossing {
-    // Disk 0 is the ledger's; behind it come those of the copies.
+    // Disk 0 is the ledger's; behind it come those of the copies, and from 17 on spares, at which no one meets.
     fn write(&self, which: u8) {
         if self.begun.load(Ordering::SeqCst) && which > 0 {
             self.meeting.come(which - 1);
