@@ -1,4 +1,4 @@
-"""What the scripts on runs over real disks share: the program, scripts, runs over a folder, and a journal's records."""
+"""What the scripts on runs over real disks share: the program, scripts, runs over a folder, disks, and a journal's records."""
 import json
 import os
 import signal
@@ -8,6 +8,10 @@ import sys
 HOME = os.path.abspath(os.path.join(os.path.dirname(os.path.abspath(__file__)), ".."))
 PROVED = os.path.join(HOME, "crates/qc_prog/out/qc_prog")
 OPEN = 1
+# What the number of a disk and that of its spare differ by.
+SPARE = 17
+# The first byte of a base's body.
+BASE = b"\x04"
 
 
 def end_by_signals():
@@ -57,6 +61,11 @@ def image_of(folder, disk):
         return file.read()
 
 
+def images_of(folder, copies=1):
+    """The bytes of each disk of a store and of each spare, by its number."""
+    return {number: image_of(folder, number) for first in (0, SPARE) for number in range(first, first + copies + 1)}
+
+
 def put_image(folder, disk, image):
     with open(os.path.join(folder, str(disk)), "wb") as file:
         file.write(image)
@@ -73,3 +82,14 @@ def records_in(image):
         end = place + 5 + number_in(image[place + 1 : place + 5])
         yield image[place + 5 : end]
         place = end
+
+
+def fold_in(image):
+    """The number of a journal's base, 0 where it has none."""
+    second = b"".join(list(records_in(image))[1:2])
+    return number_in(second[1:9]) if second.startswith(BASE) else 0
+
+
+def active_image(folder, disk):
+    """The bytes of a disk or of its spare: of that whose base has the greater number, else the disk's own."""
+    return max(image_of(folder, disk), image_of(folder, disk + SPARE), key=fold_in)

@@ -11,8 +11,11 @@ sys.path.insert(0, os.path.dirname(os.path.abspath(__file__)))
 from script_text import MOST_BYTES, Refused, read_script
 
 MOST_COPIES = 16
+# What a disk's number and that of its spare differ by: so many disks may have spares.
+SPARE = MOST_COPIES + 1
 GATES = (b"\x00", b"\x01")
 MADE = b"\x01\x01"
+BASE = b"\x04"
 KINDS = {stat.S_IFDIR: "a folder", stat.S_IFIFO: "a pipe", stat.S_IFSOCK: "a socket"}
 
 
@@ -40,20 +43,53 @@ def parts(record):
     return name, start, f"votes {votes}, read {read}, write {write}"
 
 
-def table_on(path):
-    """The table that a disk was made for, or nothing where its first record does not tell."""
+def size_of(path):
+    """How many bytes a plain file has, at the end of links too; of anything else none."""
+    try:
+        found = os.stat(path)
+    except OSError:
+        return 0
+    return found.st_size if stat.S_ISREG(found.st_mode) else 0
+
+
+def front_on(path):
+    """The first two records of a disk, or those that stand there. What is no plain file is not opened: that might wait."""
+    front = []
+    if not size_of(path):
+        return front
     try:
         with open(path, "rb") as file:
-            gate, length = file.read(1), int.from_bytes(file.read(4), "big")
-            body = file.read(min(length, MOST_BYTES))
+            while len(front) < 2 and file.read(1) == b"\x01":
+                length = int.from_bytes(file.read(4), "big")
+                body = file.read(min(length, MOST_BYTES))
+                if len(body) != length:
+                    break
+                front.append(body)
     except OSError:
-        return None
-    if gate != b"\x01" or not body.startswith(MADE) or len(body) != length:
+        pass
+    return front
+
+
+def table_on(path):
+    """The table that a disk was made for, or nothing where its first record does not tell."""
+    front = front_on(path)
+    if not front or not front[0].startswith(MADE):
         return None
     try:
-        return table_in(body)
+        return table_in(front[0])
     except (IndexError, UnicodeDecodeError):
         return None
+
+
+def fold_on(path):
+    """The number of a disk's base, 0 where it has none."""
+    front = front_on(path)
+    return int.from_bytes(front[1][1:9], "big") if len(front) == 2 and front[1].startswith(BASE) else 0
+
+
+def active_in(folder, disk):
+    """The number of the disk that is read of a disk and its spare: of that whose base has the greater number, else its own."""
+    return max((disk, disk + SPARE), key=lambda number: fold_on(os.path.join(folder, str(number))))
 
 
 def table_in(body):
@@ -76,15 +112,6 @@ def table_asked():
     except Refused:
         return None
     return Table(script.copies, script.records)
-
-
-def size_of(path):
-    """How many bytes a plain file has, at the end of links too; of anything else none."""
-    try:
-        found = os.stat(path)
-    except OSError:
-        return 0
-    return found.st_size if stat.S_ISREG(found.st_mode) else 0
 
 
 def fault_of_folder(folder):
@@ -116,30 +143,35 @@ def fault_of_file(path):
     return None
 
 
-def fault_of_missing(path, made, asked):
+def fault_of_missing(path, others, made, asked):
     """What is wrong where a file is missing beside others that have bytes."""
     if made and asked and asked.copies > made.copies:
         return f"there is no {path}: the store was made for {made.copies} copies, and the script has {asked.copies}"
-    return f"there is no {path}, and other disks of the store have bytes: it was lost (docs/FORMATS.md, \"Words\")"
+    return f"there is no {path}, and other {others} of the store have bytes: it was lost (docs/FORMATS.md, \"Words\")"
 
 
-def fault_of_store(folder, asked):
-    """The first disk with a fault, as they are obtained, and the fault."""
-    paths = [os.path.join(folder, str(number)) for number in range(MOST_COPIES + 1)]
-    made = table_on(paths[0])
+def fault_of_row(folder, first, others, made, asked):
+    """The first disk with a fault, of those from a number on, and the fault. They stand beside others of their kind."""
+    paths = [os.path.join(folder, str(number)) for number in range(first, first + SPARE)]
     table = asked or made
-    has_store = any(map(size_of, paths))
-    for number, path in enumerate(paths[: table.copies + 1] if table else paths):
+    has_bytes = any(map(size_of, paths))
+    for number, path in enumerate(paths[: table.copies + 1] if table else paths, first):
         fault = None
         if os.path.lexists(path):
             fault = fault_of_file(path)
-        elif has_store and (table or not number):
-            fault = fault_of_missing(path, made, asked)
+        elif has_bytes and (table or number == first):
+            fault = fault_of_missing(path, others, made, asked)
         elif not os.access(folder, os.W_OK):
             fault = f"there is no permission to make {path}"
         if fault:
             return number, fault
     return None
+
+
+def fault_of_store(folder, asked):
+    """The first disk with a fault, as they are obtained, the spares behind all others, and the fault."""
+    made = table_on(os.path.join(folder, str(active_in(folder, 0))))
+    return fault_of_row(folder, 0, "disks", made, asked) or fault_of_row(folder, SPARE, "spares", made, asked)
 
 
 def tell_fault(folder):
@@ -155,9 +187,10 @@ def tell_fault(folder):
 
 
 def tell_table(folder):
-    """How the first disk whose table is another differs from the script, or what the store was made for."""
+    """How the first disk that is read and whose table is another differs from the script, or what the store was made for."""
     asked = table_asked()
-    for number in range(MOST_COPIES + 1):
+    for disk in range(SPARE):
+        number = active_in(folder, disk)
         made = table_on(os.path.join(folder, str(number)))
         if made and not asked:
             names = ", ".join(made.records)
