@@ -8,18 +8,24 @@ use std::alloc::Global;
 use std::fs;
 use std::io::ErrorKind;
 
-/// How many disks a set has: a ledger's and those of sixteen copies. So `0` to `16` are one set, the next seventeen
-/// numbers another, and each set is judged apart.
+/// How many disks a set has: a ledger's and those of sixteen copies. So `0` to `16` are one set, and their spares, the
+/// next seventeen numbers, another.
 const DISKS: u8 = 17;
 
-/// A set of files in a folder, as it was when it was first looked at. A file that is missing where others of the set had
-/// bytes then is a disk that was lost, and not made.
+/// The number of the last spare.
+const LAST_SPARE: u8 = 33;
+
+/// A file of this name says that a folder's spares had bytes once.
+const USED: &str = "spares";
+
+/// A set of files in a folder, as it was when it was first looked at. A file that is missing is a disk that was lost,
+/// and not made, where others of the set had bytes then, or spares: also spares that were lost since.
 pub(crate) struct FileSet {
     rt: HostRuntime,
     place: String,
     first: u8,
-    /// Whether none of its files had bytes.
-    was_blank: bool,
+    /// Whether its files may be made.
+    is_new: bool,
     /// The paths of those that were made since.
     made: Vec<String>,
 }
@@ -38,15 +44,36 @@ fn has_bytes(rt: &HostRuntime, path: &str) -> Result<bool, DiskNo> {
     }
 }
 
-// Whether no file of the set has bytes.
+// Whether neither a file of the set has bytes, nor a spare of it.
 fn is_blank(rt: &HostRuntime, alloc: Global, place: &str, first: u8) -> Result<bool, DiskNo> {
-    for number in first..=first.saturating_add(DISKS - 1) {
+    for number in first..=first.saturating_add(DISKS - 1).max(LAST_SPARE) {
         let path = format!(in alloc; "{place}/{number}")?;
         if has_bytes(rt, path.as_str())? {
             return Ok(false);
         }
     }
     Ok(true)
+}
+
+// Whether spares may be made: none has bytes, and the folder has no mark that one had. A folder is marked when spares are
+// first found with bytes: only from then on may the next run rest on what stands on them alone.
+fn are_new_spares(
+    rt: &HostRuntime,
+    alloc: Global,
+    place: &str,
+    are_blank: bool,
+) -> Result<bool, DiskNo> {
+    let path = format!(in alloc; "{place}/{USED}")?;
+    match fs::symlink_metadata(rt, path.as_str()) {
+        Ok(_) => Ok(false),
+        Err(error) if error.kind() == ErrorKind::NotFound => {
+            if !are_blank {
+                FileDisk::make(rt, place, path.as_str()).map_err(|_| DiskNo::Failed)?;
+            }
+            Ok(are_blank)
+        }
+        Err(_) => Err(DiskNo::Failed),
+    }
 }
 
 impl FileSet {
@@ -58,12 +85,17 @@ impl FileSet {
         which: u8,
     ) -> Result<FileSet, DiskNo> {
         let first = first_of(which);
-        let was_blank = is_blank(&rt, alloc, place, first)?;
+        let is_blank = is_blank(&rt, alloc, place, first)?;
+        let is_new = if first == DISKS {
+            are_new_spares(&rt, alloc, place, is_blank)?
+        } else {
+            is_blank
+        };
         Ok(FileSet {
             rt,
             place: place.to_string(alloc)?,
             first,
-            was_blank,
+            is_new,
             made: Vec::new(alloc),
         })
     }
@@ -83,7 +115,7 @@ impl FileSet {
         let path = format!(in alloc; "{place}/{which}")?;
         let opened = match fs::symlink_metadata(&self.rt, path.as_str()) {
             Ok(_) => FileDisk::find(&self.rt, place, path.as_str()),
-            Err(error) if error.kind() == ErrorKind::NotFound && self.was_blank => {
+            Err(error) if error.kind() == ErrorKind::NotFound && self.is_new => {
                 self.made.reserve(1)?;
                 let made = FileDisk::make(&self.rt, place, path.as_str());
                 self.made.push_reserved(path);
@@ -114,7 +146,7 @@ impl Drop for FileSet {
             rt: _,
             place: _,
             first: _,
-            was_blank: _,
+            is_new: _,
             made: _,
         } = self;
     }
