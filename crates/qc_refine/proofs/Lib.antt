@@ -1,6 +1,6 @@
 pub mod Worked
 mod WorkedRestored
-mod WorkedPairs
+pub mod WorkedPairs
 pub mod Copies
 pub mod Managers
 pub mod Order

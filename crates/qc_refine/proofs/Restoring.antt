@@ -5,8 +5,9 @@ pub mod RestoredTuples
 pub mod RestoredSound
 pub mod ListedNames
 pub mod FoldedPairs
+pub mod Actives
 pub mod ImageReadings
-pub mod RestoredImages
+pub mod RestoredBases
 pub mod PairImages
 pub mod ActiveImages
 pub mod GrownImages

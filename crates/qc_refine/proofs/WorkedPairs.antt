@@ -19,12 +19,12 @@ use Rattle.qc_journal.specs.Image.{HasRecords, IsShort, row as records_row}
 use Rattle.qc_refine.specs.Folded.{seen_row}
 use Rattle.qc_refine.specs.Pairs.{IsFoldedCopy, IsFoldedLedger, StandInPairs, TellsCopy, TellsLedger}
 use Rattle.qc_refine.proofs.Restoring.GrownImages.{by_swapped}
-use Rattle.qc_refine.proofs.Restoring.RestoredImages.{fresh_beside}
+use Rattle.qc_refine.proofs.Restoring.RestoredBases.{fresh_beside}
 
 abbrev one_row : Row
 one_row = record { name = 97 ∷ []; start = 0; config = record { votes = 1 ∷ []; read = 1; write = 1 } }
 
-abbrev table : Table
+abbrev pub table : Table
 table = record { copies = 1; records = one_row ∷ [] }
 
 -- the first fold of a disk
@@ -33,7 +33,8 @@ folded_to tuples = record { number = 1; epoch = 1; tuples = tuples }
 
 -- BODIES
 
-abbrev made : ℕ → List ℕ
+-- how the disk of a number was made
+abbrev pub made : ℕ → List ℕ
 made disk = body.made.spell (made_for disk table)
 
 abbrev ledger_own : List (List ℕ)
@@ -49,18 +50,18 @@ abbrev copy_spare : List (List ℕ)
 copy_spare = made 18 ∷ (copy_base table).spell (folded_to (first_tuple one_row ∷ [])) ∷ []
 
 -- an image of bodies, with a closed gate behind them
-abbrev image : List (List ℕ) → List ℕ
+abbrev pub image : List (List ℕ) → List ℕ
 image bodies = records_row bodies ++ 0 ∷ []
 
 abbrev images : List (List ℕ)
 images = image ledger_own ∷ image copy_own ∷ image ledger_spare ∷ image copy_spare ∷ []
 
-has : (bodies : List (List ℕ)) → All IsShort bodies → HasRecords bodies (image bodies)
+pub has : (bodies : List (List ℕ)) → All IsShort bodies → HasRecords bodies (image bodies)
 has bodies short = inr (length (records_row bodies), record { gate = 0; rest = []; split = refl; closed = λ is. cc; size = refl; short = short })
 
 -- THEY ARE SHORT
 
-made_short : (disk : ℕ) → length (made disk) ≡ 21
+pub made_short : (disk : ℕ) → length (made disk) ≡ 21
 unfolding body.made body.making body.table body.row body.label config half long
 made_short disk = refl
 

@@ -1,5 +1,5 @@
--- The law on restored values says something: worked histories in the first epoch, over one copy with one vote, beside
--- which disks stand, and what these restore.
+-- The law on what pairs restore says something of records: worked histories in the first epoch, over one copy with one vote,
+-- beside which disks stand, and what these restore.
 use Rattle.std.proofs.Common.{◌≡◌, ℕ, zero, suc, ◌<◌, inl, inr, List, [], ◌∷◌, ◌++◌, reverse, refl, sym, ap, rules, arith}
 use mathlib.Core.Bool.{true≢false}
 use Rattle.std.specs.Prelude.{All}

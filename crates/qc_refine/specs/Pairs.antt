@@ -105,18 +105,6 @@ pub record AreFreshPairs (table : Table) (images : List (List ℕ)) : Type 0 whe
   pub ledger_spare : IsUnused table 17 ledger.spare
   pub copy_spares : (copy : ℕ) (there : copy < table.copies) → IsUnused table (copy + 1 + 17) (copies copy there).spare
 
--- ACTIVE IMAGES
-
--- bodies on the disk of a number are those of this image, which is of this disk
-abbrev pub AreOfImage : ℕ → List ℕ → ℕ → List (List ℕ) → Type 0
-AreOfImage disk image number bodies = (number ≡ disk) × HasRecords bodies image
-
--- Images are the active ones of pairs, the image at each place of the disk of that number.
-pub record AreActive (table : Table) (disk : ℕ → ℕ) (images actives : List (List ℕ)) : Type 0 where
-  pub as_many : length images ≡ table.copies + 1 + (table.copies + 1)
-  pub ledger : TellsLedger table images (AreOfImage (disk 0) (image_of table actives 0))
-  pub copies : (copy : ℕ) → copy < table.copies → TellsCopy table images copy (AreOfImage (disk (copy + 1)) (image_of table actives (copy + 1)))
-
 -- WHAT IMAGES RESTORE
 
 module _ (table : Table) (bodies : ℕ → List (List ℕ)) where

@@ -5,7 +5,6 @@ mod complete;
 mod folded;
 mod last_values;
 mod pairs;
-mod restored;
 
 ghost use Rattle.std.specs.Prelude.{ℕ, ◌≡◌, ◌∷◌, ◌++◌, All, List, [], length, None};
 ghost use Rattle.qc_config.specs.Config.{Voting};
@@ -25,7 +24,6 @@ pub use complete::committed_managers_are_complete;
 pub use folded::folded_pairs_restore_alike;
 pub use last_values::last_values_are_serial;
 pub use pairs::restored_pairs_are_serial;
-pub use restored::restored_values_are_serial;
 
 /// Where the copies carry a value of a record and a complete manager finds what is there, a read answers the
 /// value and changes nothing, a write leaves copies that carry what it wrote, and a reconfiguration copies that

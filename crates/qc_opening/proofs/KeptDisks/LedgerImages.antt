@@ -22,9 +22,9 @@ use Rattle.qc_codec.specs.declared.record.LedgerRecord.TheVariants.{Epoch, Top}
 use Rattle.qc_journal.specs.Image.{HasRecords}
 use Rattle.qc_ledger.specs.Entered.{told_body, tops_of}
 use Rattle.qc_desk.specs.Entries.{entries_of}
-use Rattle.qc_refine.specs.Images.{IsLedgerImage}
 use Rattle.qc_refine.specs.Listed.{logged, logged_as}
 use Rattle.qc_refine.specs.Standing.{AreNext, IsOfEpoch, IsNext}
+use Rattle.qc_refine.proofs.Restoring.Actives.{IsLedgerImage}
 use Rattle.qc_refine.proofs.Restoring.LoggedTops.{IsLogged, committed_ready, logged_are}
 use Rattle.qc_ledger.specs.Since as left
 use Rattle.qc_system.specs.Left.{KeepsTops}

@@ -21,11 +21,12 @@ use Rattle.qc_codec.specs.declared.past.Past.{Past as Logs}
 use Rattle.qc_desk.specs.Held.{from_row}
 use Rattle.qc_journal.proofs.Readings.{records-same}
 use Rattle.qc_journal.specs.Image.{HasRecords}
-use Rattle.qc_refine.specs.Images.{IsCopyImage, Restores, first_of, kept_in}
+use Rattle.qc_refine.specs.Images.{IsCopyImage}
 use Rattle.qc_refine.specs.Folded.{begins}
 use Rattle.qc_refine.specs.Restored.{granted_at, restored}
+use Rattle.qc_refine.proofs.Restoring.Actives.{ActivesRestore, first_told, kept_told}
 use Rattle.qc_refine.proofs.Restoring.ImageReadings.{copy_tells, copy_told}
-use Rattle.qc_refine.proofs.Restoring.RestoredImages.{nothing_restored}
+use Rattle.qc_refine.proofs.Restoring.RestoredBases.{nothing_restored}
 use Rattle.qc_site.specs.Image.{AreMountableAsCopy, to_write}
 use Rattle.qc_opening.specs.Mountings.{HaveNoGrantsOn, MountedOn}
 use Rattle.qc_opening.proofs.KeptDisks.CutOff.{same_base, same_grants}
@@ -56,33 +57,33 @@ module _ (disk : ℕ → ℕ) (table : Table) (images : List (List ℕ)) (record
   found_read : (copy : ℕ) (there : copy < table.copies) → (m.copies copy there).found ≡ bodies (copy + 1)
   found_read copy there = records-same (get_or images (copy + 1) []) (read (copy + 1)).0 (m.copies copy there).found (read (copy + 1)).1 (m.copies copy there).fine.0
 
-  grants_read : (copy : ℕ) → copy < table.copies → readings (grant_form table) (records (copy + 1)) ≡ granted_at (kept_in table bodies) copy
+  grants_read : (copy : ℕ) → copy < table.copies → readings (grant_form table) (records (copy + 1)) ≡ granted_at (kept_told table bodies) copy
   grants_read copy there =
       ap (readings (grant_form table)) (m.copies copy there).all
       ∙ written_same table (disk (copy + 1)) (m.copies copy there).found
       ∙ ap (readings (grant_form table)) (found_read copy there)
       ∙ sym (get_or-map-range_with_len (λ c. readings (grant_form table) ((read (c + 1)).0)) 0 table.copies copy copy [] there (omega arith))
 
-  begin_read : (copy : ℕ) → copy < table.copies → tuples_of_base table (base_in copy_base (records (copy + 1))) ≡ begins (first_of table bodies) copy
+  begin_read : (copy : ℕ) → copy < table.copies → tuples_of_base table (base_in copy_base (records (copy + 1))) ≡ begins (first_told table bodies) copy
   begin_read copy there =
       ap (λ bs. tuples_of_base table (base_in copy_base bs)) (m.copies copy there).all
       ∙ written_begin table (disk (copy + 1)) (m.copies copy there).found
       ∙ ap (λ bs. tuples_of_base table (base_in copy_base bs)) (found_read copy there)
       ∙ sym (first_at table bodies copy there)
 
-  tops_read : m.past.tops ≡ (kept_in table bodies).tops
+  tops_read : m.past.tops ≡ (kept_told table bodies).tops
   unfolding read
   tops_read = ap (λ (p : Logs). p.tops) m.ledger.past_is
 
   -- what the copies start with is what the images restore
-  pub restores : Restores table images base
+  pub restores : ActivesRestore table images base
   restores = record {
     bodies = bodies;
     has = λ number. (read number).1;
-    same = rows_restored table base (first_of table bodies) (kept_in table bodies) m.as_many (first_many table bodies) (λ copy there.
+    same = rows_restored table base (first_told table bodies) (kept_told table bodies) m.as_many (first_many table bodies) (λ copy there.
         m.starts copy there
         ∙ ap (λ (row : List Tuple). restored_row m.past.tops (length table.records) (from_row row) (readings (grant_form table) (records (copy + 1)))) (begin_read copy there)
-        ∙ ap₂ (λ (tops : List Logged) (gs : List Grant). restored_row tops (length table.records) (start_tuple (first_of table bodies) copy) gs) tops_read (grants_read copy there));
+        ∙ ap₂ (λ (tops : List Logged) (gs : List Grant). restored_row tops (length table.records) (start_tuple (first_told table bodies) copy) gs) tops_read (grants_read copy there));
   }
 
 -- THE FIRST MOUNTING

@@ -20,10 +20,11 @@ use Rattle.qc_codec.specs.Ledger.{IsOld, readings}
 use Rattle.qc_codec.specs.Restored.{restored_row}
 use Rattle.qc_desk.specs.Held.{from_row}
 use Rattle.qc_refine.specs.Folded.{begins}
-use Rattle.qc_refine.specs.Images.{IsCopyImage, StandOnWithin, first_of}
+use Rattle.qc_refine.specs.Images.{IsCopyImage}
 use Rattle.qc_refine.specs.Listed.{logged}
 use Rattle.qc_refine.specs.Restored.{Kept, granted_at, restored}
 use Rattle.qc_refine.specs.Standing.{IsAskedOf, IsOfEpoch, IsUntold, StandBeside}
+use Rattle.qc_refine.proofs.Restoring.Actives.{ActivesStand, first_told}
 use Rattle.qc_opening.specs.Mountings.{AreKept, MountedOn}
 use Rattle.qc_opening.proofs.KeptDisks.Choices.{Each, each_at_once}
 use Rattle.qc_opening.proofs.KeptDisks.CopyImages as copy_image
@@ -41,10 +42,10 @@ rows_restored table base first kept many as_many each =
     (λ copy there. each copy (subst (λ (n : ℕ). copy < n) as_many there))
 
 -- by bodies, with what the copies begin is one for each
-pub first_many : (table : Table) (bodies : ℕ → List (List ℕ)) → length (first_of table bodies) ≡ table.copies
+pub first_many : (table : Table) (bodies : ℕ → List (List ℕ)) → length (first_told table bodies) ≡ table.copies
 first_many table bodies = length-map-range_with_len (λ c. tuples_of_base table (base_in copy_base (bodies (c + 1)))) 0 table.copies
 
-pub first_at : (table : Table) (bodies : ℕ → List (List ℕ)) (copy : ℕ) → copy < table.copies → begins (first_of table bodies) copy ≡ tuples_of_base table (base_in copy_base (bodies (copy + 1)))
+pub first_at : (table : Table) (bodies : ℕ → List (List ℕ)) (copy : ℕ) → copy < table.copies → begins (first_told table bodies) copy ≡ tuples_of_base table (base_in copy_base (bodies (copy + 1)))
 first_at table bodies copy there = get_or-map-range_with_len (λ c. tuples_of_base table (base_in copy_base (bodies (c + 1)))) 0 table.copies copy copy [] there (omega arith)
 
 module _ (disk : ℕ → ℕ) (table : Table) (told : ℕ → Option (List ℕ)) (records : ℕ → List (List ℕ)) (epoch : ℕ) (base : List (List Tuple)) (m : MountedOn disk table told records epoch base) where
@@ -67,13 +68,13 @@ module _ (disk : ℕ → ℕ) (table : Table) (told : ℕ → Option (List ℕ))
 
   -- with what the copies begin
   abbrev first : List (List Tuple)
-  first = first_of table records
+  first = first_told table records
 
   starts_before : base ≡ restored first (length table.records) before
   starts_before = rows_restored table base first before m.as_many (first_many table records) (λ copy there.
       m.starts copy there ∙ ap₂ (λ (row : List Tuple) (gs : List Grant). restored_row m.past.tops (length table.records) (from_row row) gs) (sym (first_at table records copy there)) (sym (before_at copy there)))
 
-  module _ (past : Past) (images : List (List ℕ)) (legal : Legal (setting_of table base) past) (few : length past ≤ limit) (of_epoch : IsOfEpoch epoch past) (as_many : length images ≡ table.copies + 1) where
+  module _ (past : Past) (images : List (List ℕ)) (legal : Legal (setting_of table base) past) (few : length past ≤ limit) (of_epoch : IsOfEpoch epoch past) where
     abbrev image : ℕ → List ℕ
     image number = get_or images number []
 
@@ -128,34 +129,31 @@ module _ (disk : ℕ → ℕ) (table : Table) (told : ℕ → Option (List ℕ))
         granted = λ copy there. let here : copy < table.copies = omega (arith, there, many) in now_at copy here ∙ ap (λ (gs : List Grant). gs ++ (grants past copy ++ (told_at copy).0)) (sym (before_at copy here));
       }
 
-      stand_so : StandOnWithin disk 1 table base epoch past images
+      stand_so : ActivesStand disk 1 table base epoch past images
       unfolding beside
       stand_so = record {
-        standing = record {
-          first = first;
-          before = before;
-          now = now;
-          beside = beside;
-          many = first_many table records;
-          as_many = as_many;
-          ledger = l.is_image;
-          copies = λ copy there. subst (λ gs. IsCopyImage table (begins first copy) gs (disk (copy + 1)) (get_or images (copy + 1) [])) (sym (now_at copy there)) ((told_at copy).1 there).3;
-        };
+        first = first;
+        before = before;
+        now = now;
+        beside = beside;
+        many = first_many table records;
+        ledger = l.is_image;
+        copies = λ copy there. subst (λ gs. IsCopyImage table (begins first copy) gs (disk (copy + 1)) (get_or images (copy + 1) [])) (sym (now_at copy there)) ((told_at copy).1 there).3;
         few_tops = l.at_most_one;
         few_grants = λ copy there. ((told_at copy).1 there).1;
         asked = λ copy there. ((told_at copy).1 there).2;
       }
 
   -- the images of disks that keep a legal history stand beside it
-  pub stand : (past : Past) (images : List (List ℕ)) → Legal (setting_of table base) past → length past ≤ limit → IsOfEpoch epoch past → AreKept table base records past images → ∥ StandOnWithin disk 1 table base epoch past images ∥₁
+  pub stand : (past : Past) (images : List (List ℕ)) → Legal (setting_of table base) past → length past ≤ limit → IsOfEpoch epoch past → AreKept table base records past images → ∥ ActivesStand disk 1 table base epoch past images ∥₁
   stand past images legal few of_epoch kept =
-      ∥∥₁_elim ledger_tells ∥∥₁_prop (λ l. ∥∥₁_map (each_at_once table.copies (CopyTells past images legal few of_epoch kept.as_many) copies_tell) (λ c. stand_so past images legal few of_epoch kept.as_many l c))
+      ∥∥₁_elim ledger_tells ∥∥₁_prop (λ l. ∥∥₁_map (each_at_once table.copies (CopyTells past images legal few of_epoch) copies_tell) (λ c. stand_so past images legal few of_epoch l c))
     where
-      ledger_tells : ∥ LedgerTells past images legal few of_epoch kept.as_many ∥₁
+      ledger_tells : ∥ LedgerTells past images legal few of_epoch ∥₁
       ledger_tells = ∥∥₁_map kept.ledger (λ keeps.
           ledger_image.told (setting_of table base) past epoch legal few of_epoch m.small (disk 0) table m.past (records 0) ledger_mounted (get_or images 0 []) (λ i. i ≡ get_or images 0 []) refl keeps)
 
-      copies_tell : Each table.copies (λ copy. ∥ CopyTells past images legal few of_epoch kept.as_many copy ∥₁)
+      copies_tell : Each table.copies (λ copy. ∥ CopyTells past images legal few of_epoch copy ∥₁)
       copies_tell copy there = ∥∥₁_map (kept.copies copy there) (λ keeps.
           copy_image.told (setting_of table base) table (length base) copy (disk (copy + 1)) (records (copy + 1)) (tuples_of_base table (base_in copy_base (records (copy + 1)))) (readings (grant_form table) (records (copy + 1))) past (get_or images (copy + 1) [])
           m.as_many (copy_spelled copy there).tells (λ i. i ≡ get_or images (copy + 1) []) refl keeps)

@@ -19,10 +19,11 @@ use Rattle.qc_desk.specs.Held.{from_row}
 use Rattle.qc_journal.specs.Image.{HasRecords, IsShort, length_bytes, row as records_row}
 use Rattle.qc_journal.specs.Journal.{IsTooLong}
 use Rattle.qc_journal.proofs.Images.{length-length_bytes}
-use Rattle.qc_refine.specs.Images.{IsStandingWithin}
 use Rattle.qc_site.specs.Mounted as copies
 use Rattle.qc_system.specs.Left.{KeepsGrants}
+use Rattle.qc_refine.proofs.Restoring.Actives.{ActivesStand}
 use Rattle.qc_refine.proofs.Restoring.ImageReadings.{made_told}
+use Rattle.qc_refine.proofs.WorkedPairs.{has}
 use Rattle.qc_opening.proofs.KeptDisks.Stands.{stand}
 use Rattle.qc_codec.specs.Bodies as body
 use Rattle.qc_codec.specs.Fields.{config, half, long, word}
@@ -141,9 +142,6 @@ mounted = record {
 
 -- THE IMAGES
 
-pub has : (bodies : List (List ℕ)) → All IsShort bodies → HasRecords bodies (records_row bodies ++ 0 ∷ [])
-has bodies short = inr (length (records_row bodies), record { gate = 0; rest = []; split = refl; closed = λ is. cc; size = refl; short = short })
-
 abbrev pub images : List (List ℕ)
 images = (records_row (records 0) ++ 0 ∷ []) ∷ (records_row (records 1) ++ 0 ∷ []) ∷ []
 
@@ -168,5 +166,5 @@ kept = record {
     each_copy (suc copy) there = absurd (omega (arith, there))
 
 -- so they stand beside the empty history
-stands : ∥ IsStandingWithin 1 table (base_of table) 1 [] images ∥₁
+stands : ∥ ActivesStand (λ place. place) 1 table (base_of table) 1 [] images ∥₁
 stands = stand (λ place. place) table empty records 1 (base_of table) mounted [] images tt (omega arith) (λ number began. absurd (true≢false (sym began))) kept

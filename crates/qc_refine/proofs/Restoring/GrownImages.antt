@@ -11,7 +11,8 @@ use Rattle.qc_codec.specs.declared.record.Made.{Made}
 use Rattle.qc_event.specs.declared.event.Grant.{Grant}
 use Rattle.qc_event.specs.declared.table.Table.{Table}
 use Rattle.qc_journal.specs.Image.{HasRecords}
-use Rattle.qc_refine.specs.Pairs.{AreOfImage, TellsPair}
+use Rattle.qc_refine.specs.Pairs.{TellsPair}
+use Rattle.qc_refine.proofs.Restoring.Actives.{AreOfImage}
 
 -- WHAT KEEPS A BASE
 

@@ -22,7 +22,8 @@ use Rattle.qc_event.specs.declared.event.Grant.{Grant}
 use Rattle.qc_event.specs.declared.table.Table.{Table}
 use Rattle.qc_journal.proofs.Readings.{records-same}
 use Rattle.qc_journal.specs.Image.{HasRecords}
-use Rattle.qc_refine.specs.Images.{IsCopyBodies, IsCopyImage, IsLedgerBodies, IsLedgerImage}
+use Rattle.qc_refine.specs.Images.{IsCopyBodies, IsCopyImage, IsLedgerBodies}
+use Rattle.qc_refine.proofs.Restoring.Actives.{IsLedgerImage}
 
 -- WHAT IS READ
 

@@ -26,7 +26,7 @@ use Rattle.qc_refine.specs.Pairs.{AreFreshPairs, IsFoldedCopy, RestoreInPairs, S
 use Rattle.qc_refine.specs.Restored.{granted_at, restored}
 use Rattle.qc_refine.specs.Standing.{committed_too}
 use Rattle.qc_refine.proofs.Restoring.ImageReadings.{copy_told, ledger_told}
-use Rattle.qc_refine.proofs.Restoring.RestoredImages.{folded_carry, fresh_begins, fresh_beside, fresh_many}
+use Rattle.qc_refine.proofs.Restoring.RestoredBases.{folded_carry, fresh_begins, fresh_beside, fresh_many}
 
 -- WHAT IS READ
 

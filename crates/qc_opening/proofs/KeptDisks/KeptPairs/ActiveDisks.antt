@@ -9,7 +9,8 @@ use Rattle.qc_pair.specs.Front.{base_form}
 use Rattle.qc_pair.specs.Opening.{HaveActive}
 use Rattle.qc_pair.specs.Pair.{number_at}
 use Rattle.qc_pair.specs.declared.kind.Kind.{Kind}
-use Rattle.qc_refine.specs.Pairs.{AreOfImage, TellsPair, image_of}
+use Rattle.qc_refine.specs.Pairs.{TellsPair, image_of}
+use Rattle.qc_refine.proofs.Restoring.Actives.{AreOfImage}
 use Rattle.qc_refine.proofs.Restoring.GrownImages.{by_swapped}
 
 -- THE ACTIVE IMAGES

@@ -18,8 +18,9 @@ use Rattle.qc_opening.proofs.KeptDisks.Restarts as disks
 use Rattle.qc_pair.specs.Pair.{number_at}
 use Rattle.qc_pair.specs.declared.kind.Kind.TheVariants as kind
 use Rattle.qc_refine.specs.Images.{CarryFinal, IsCopyImage}
-use Rattle.qc_refine.specs.Pairs.{AreActive, RestoreInPairs, StandInPairs, image_of, spare_image}
+use Rattle.qc_refine.specs.Pairs.{RestoreInPairs, StandInPairs, image_of, spare_image}
 use Rattle.qc_refine.specs.Standing.{committed_too}
+use Rattle.qc_refine.proofs.Restoring.Actives.{AreActive}
 use Rattle.qc_refine.proofs.Restoring.ActiveImages.{active_restore}
 use Rattle.qc_refine.proofs.Restoring.PairImages.{pairs_carry_final, pairs_restore_one, pairs_restore_some}
 use Rattle.qc_site.specs.Mounted.{MountsCopy}

@@ -1,29 +1,25 @@
 -- The law on pairs says something where they were folded: both pairs of a store of one copy and one record, before anything ran.
-use Rattle.std.proofs.Common.{◌≡◌, ℕ, zero, suc, ◌<◌, inr, List, [], ◌∷◌, ◌++◌, length, get_or, refl, sym, subst, arith, rules}
+use Rattle.std.proofs.Common.{◌≡◌, ℕ, zero, suc, ◌<◌, inr, List, [], ◌∷◌, length, get_or, refl, sym, subst, arith, rules}
 use mathlib.Core.Bool.{true≢false}
 use Rattle.std.specs.Prelude.{All, Some}
 use Rattle.std.proofs.lemmas.List.Elements.{All-cons, All-nil}
 use Rattle.qc_codec.specs.Bodies as body
 use Rattle.qc_codec.specs.Fields.{config, half, long, tuple, word}
-use Rattle.qc_codec.specs.Ledger.{made_for}
 use Rattle.qc_config.specs.declared.tuple.Tuple.{Tuple}
 use Rattle.qc_event.specs.Standing.{HasEnded}
 use Rattle.qc_event.specs.Tables.{base_of, setting_of}
 use Rattle.qc_journal.proofs.Readings.{records-same}
-use Rattle.qc_journal.specs.Image.{HasRecords, IsShort, row as records_row}
+use Rattle.qc_journal.specs.Image.{HasRecords, IsShort}
 use Rattle.qc_opening.specs.Pairs.{AreLeftByFolds, IsCopyFolded, IsFolded, next_base}
 use Rattle.qc_opening.proofs.KeptDisks.KeptPairs.PairsStand.{stand}
 use Rattle.qc_opening.proofs.KeptDisks.KeptPairs.WorkedPairs.{no_record, pairs_mounted}
-use Rattle.qc_opening.proofs.KeptDisks.Worked.{has, images, kept, mounted, records, table}
+use Rattle.qc_opening.proofs.KeptDisks.Worked.{images, kept, mounted, records}
 use Rattle.qc_pair.specs.Front.{base_form}
 use Rattle.qc_pair.specs.declared.kind.Kind.{Kind}
 use Rattle.qc_pair.specs.declared.kind.Kind.TheVariants as kind
 use Rattle.qc_refine.specs.Folded.{seen_row}
 use Rattle.qc_refine.specs.Pairs.{StandInPairsWithin}
-
--- how the disk of a number was made
-abbrev made : ℕ → List ℕ
-made disk = body.made.spell (made_for disk table)
+use Rattle.qc_refine.proofs.WorkedPairs.{has, image, made, made_short, table}
 
 -- what the copy holds
 abbrev held : List Tuple
@@ -33,17 +29,10 @@ held = seen_row (setting_of table (base_of table)) [] 0
 abbrev folded_bodies : Kind → ℕ → List Tuple → List (List ℕ)
 folded_bodies form disk tuples = made disk ∷ (base_form form table).spell (next_base form [] 1 tuples) ∷ []
 
-abbrev image : List (List ℕ) → List ℕ
-image bodies = records_row bodies ++ 0 ∷ []
-
 abbrev folded_images : List (List ℕ)
 folded_images = get_or images 0 [] ∷ get_or images 1 [] ∷ image (folded_bodies kind.Ledger 17 []) ∷ image (folded_bodies kind.Copy 18 held) ∷ []
 
 -- THE BASES
-
-made_short : (disk : ℕ) → length (made disk) ≡ 21
-unfolding body.made body.making body.table body.row body.label config half long
-made_short disk = refl
 
 ledger_short : length ((base_form kind.Ledger table).spell (next_base kind.Ledger [] 1 [])) ≡ 13
 unfolding body.base body.folded long word
