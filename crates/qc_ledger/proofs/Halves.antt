@@ -1,6 +1,6 @@
 -- What the mounting of a pair leaves of each of its disks, and why it is refused.
 use Rattle.std.proofs.Common.{◌≡◌, inl, inr, ℕ, ◌+◌, List, ◌++◌, refl, sym, ap, ◌∙◌, subst, arith}
-use Rattle.std.specs.Prelude.{◌↔◌, Bool, true, false, Option, IsSome, Ok, Err, if◌then◌else◌}
+use Rattle.std.specs.Prelude.{◌↔◌, Bool, true, false, Option, None, Some, IfSome, IsSome, Ok, Err, if◌then◌else◌}
 use Rattle.std.specs.Result.{IsErrOf}
 use Rattle.qc_disk.specs.Disk.{CountsOnce, HasCause}
 use Rattle.qc_disk.specs.declared.disk.Disk.{Ghosts}
@@ -10,7 +10,7 @@ use Rattle.qc_codec.specs.Ledger.{past_in}
 use Rattle.qc_codec.specs.declared.image.BadImage.{BadImage}
 use Rattle.qc_codec.specs.declared.image.ImageFault.{ImageFault}
 use Rattle.qc_codec.specs.declared.past.Past.{Past}
-use Rattle.qc_journal.specs.Image.{HasAt}
+use Rattle.qc_journal.specs.Image.{HasAt, HasRecords}
 use Rattle.qc_journal.specs.Journal.{Keeps, disk_of}
 use Rattle.qc_journal.specs.declared.journal.Journal.{Journal}
 use Rattle.qc_journal.proofs.Moments.{continues, grows_on, weakened}
@@ -22,7 +22,6 @@ use Rattle.qc_ledger.specs.Runs.{Costs, CostsOnce, Leaves, LosesNone}
 use Rattle.qc_ledger.specs.declared.book.Book.{Book}
 use Rattle.qc_ledger.specs.declared.fault.LedgerNo.{LedgerNo}
 use Rattle.qc_ledger.specs.declared.fault.LedgerNo.TheVariants as ledger_no
-use Rattle.qc_ledger.proofs.Mounts.{fine_told}
 use Rattle.qc_pair.specs.Fold.{active_number, other_in, own_disk, spare_disk, swapped_in}
 use Rattle.qc_pair.specs.Opening.{active_told, HaveActive, IsMountNo, MountsDisk, OpensPair}
 use Rattle.qc_pair.specs.Pair.{active_of, number_at, number_of, other_of, swapped}
@@ -159,6 +158,11 @@ module _ (kind : Kind) (who : ℕ) (told spare_told : Option (List ℕ)) (Has : 
   pub active_fault : (bodies : List (List ℕ)) (bad : BadImage) → HaveActive kind who told spare_told is_spare bodies → bad.disk ≡ disk
       → (IsSome (active_told kind who told spare_told is_spare) → Has disk bodies bad.fault) → IsMountNo kind who told spare_told Has (Image bad)
   active_fault bodies bad active at has = inr (is_spare, bodies, active, at ∙ is, (λ some. subst (λ (n : ℕ). Has n bodies bad.fault) (sym at) (has some)))
+
+-- what the bytes have, and what holds where they are told
+pub fine_told : (Fine : Type 0) (told : Option (List ℕ)) (found : List (List ℕ)) → IfSome told (HasRecords found) → (IsSome told → Fine) → IfSome told (λ bytes. HasRecords found bytes × Fine)
+fine_told Fine None found has fine = tt
+fine_told Fine (Some bytes) found has fine = (has, fine refl)
 
 -- THE LEDGER'S PAIR
 

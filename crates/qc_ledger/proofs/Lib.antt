@@ -2,7 +2,6 @@ mod Told
 pub mod Numbers
 pub mod Firsts
 pub mod Writing
-pub mod Mounts
 pub mod Halves
 pub mod Logging
 pub mod Verdicts

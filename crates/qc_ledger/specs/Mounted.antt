@@ -1,5 +1,5 @@
--- What a mounting gives, and what it leaves at each moment.
-use Rattle.std.specs.Prelude.{ℕ, ◌≡◌, ◌+◌, ◌⊎◌, List, ◌++◌, Option, IfSome, Result, Ok, Err}
+-- What a mounting gives.
+use Rattle.std.specs.Prelude.{ℕ, ◌≡◌, ◌+◌, List, ◌++◌, Option, IfSome}
 use Rattle.qc_disk.specs.declared.disk.Disk.{Ghosts}
 use Rattle.qc_event.specs.declared.table.Table.{Table}
 use Rattle.qc_codec.specs.Ledger.{past_in}
@@ -8,7 +8,6 @@ use Rattle.qc_journal.specs.Image.{HasRecords, bodies_of}
 use Rattle.qc_journal.specs.declared.journal.Journal.{Journal}
 use Rattle.qc_ledger.specs.Image.{AreLedgers, AreMountableAsLedger, to_write}
 use Rattle.qc_ledger.specs.declared.book.Book.{Book}
-use Rattle.qc_ledger.specs.declared.fault.LedgerNo.{LedgerNo}
 
 -- the journal
 abbrev pub journal_of : {D : Type 0} {g : Ghosts D} → Book D g → Journal D g
@@ -34,12 +33,3 @@ pub record MountsLedger (disk : ℕ) (table : Table) (limit : ℕ) (told : Optio
   pub past_is : past ≡ past_in found
   pub next : epoch ≡ past.epoch + 1
   pub all : records ≡ found ++ to_write disk table found
-
--- An image was left before, or it has the records that were found and some first ones of those that are written behind.
-abbrev pub MountLeaves : (List (List ℕ) → List (List ℕ)) → (List ℕ → Type 0) → Option (List ℕ) → List ℕ → Type 0
-MountLeaves written left told image = left image ⊎ IfSome told (λ bytes. (found : List (List ℕ)) × HasRecords found bytes × HasSome found (written found) image)
-
--- the disk of a ledger that was mounted, or that was handed back
-abbrev pub disk_after : {D : Type 0} {g : Ghosts D} → Result (Book D g × Past × ℕ) (D × LedgerNo) → D
-disk_after (Ok mounted) = mounted.0.journal.disk
-disk_after (Err refused) = refused.0

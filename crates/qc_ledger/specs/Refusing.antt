@@ -1,12 +1,10 @@
 -- Why a mounting is refused.
-use Rattle.std.specs.Prelude.{ℕ, ◌≡◌, List, Option, IfSome}
+use Rattle.std.specs.Prelude.{ℕ, ◌≡◌}
 use Rattle.qc_codec.specs.declared.image.ImageFault.{ImageFault}
 use Rattle.qc_codec.specs.declared.image.ImageFault.TheVariants as image
 use Rattle.qc_event.specs.declared.short.Short.TheVariants.{Memory, Room}
-use Rattle.qc_event.specs.declared.table.Table.{Table}
 use Rattle.qc_journal.specs.declared.fault.Fault.{Fault}
 use Rattle.qc_journal.specs.declared.fault.Fault.TheVariants as fault
-use Rattle.qc_ledger.specs.Image.{IsLedgerFault, IsFirstFault}
 use Rattle.qc_ledger.specs.declared.fault.LedgerNo.{LedgerNo}
 use Rattle.qc_ledger.specs.declared.fault.LedgerNo.TheVariants.{Disk, Image, Full, Short}
 
@@ -55,10 +53,6 @@ log_no fault.Disk = Disk
 log_no (fault.Broken place) = Disk
 log_no (fault.Full place) = Full place
 log_no fault.Memory = Short Memory
-
--- a mounting may be refused: for the first fault of the image that is told, for the disk, or for memory
-abbrev pub IsLedgerRefusal : Table → ℕ → Option (List ℕ) → LedgerNo → Type 0
-IsLedgerRefusal table limit told fault = IsOfLedgerImage 0 (λ f. IfSome told (IsFirstFault (IsLedgerFault 0 table limit) f)) fault
 
 -- a fault of the disk, of want of room or of the memory
 abbrev pub IsOfWriting : Fault → Type 0

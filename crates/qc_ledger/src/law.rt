@@ -6,7 +6,7 @@ ghost use Rattle.qc_journal.specs.Image.{HasRecords};
 ghost use Rattle.qc_ledger.specs.Image.{IsLedgerFault, IsFirstFault, AreMountableAsLedger};
 
 /// The bodies of a ledger's records have at most one first fault, and none where they can be mounted. So has an image.
-/// What `mount` answers is then the one fault that there is.
+/// What a mounting answers of the active disk is then the one fault that there is.
 pub fn one_verdict()
     ensures one { (disk : ℕ) (table : Table) (limit : ℕ) (bodies : List (List ℕ))
         (fault other : ImageFault) → IsLedgerFault disk table limit bodies fault

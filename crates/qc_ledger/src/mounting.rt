@@ -1,24 +1,28 @@
-//! Mounting the ledger.
-ghost use Rattle.std.specs.Prelude.{ℕ, ◌≡◌, ◌<◌, ◌+◌, [], ◌∷◌, ◌++◌, List, IfOk, IfErr, IsSome, OnOk, OnErr, IsErrOf, IsErrAnd, Err};
-ghost use Rattle.qc_disk.specs.Disk.{CountsOnce, HasCause, LeavesOnly, Grows};
+//! Mounting the ledger's pair.
+ghost use Rattle.std.specs.Prelude.{ℕ, ◌≡◌, ◌<◌, ◌+◌, [], ◌∷◌, ◌++◌, not, false, true, IfOk, IfErr, OnOk, IsErrOf, IsErrAnd, Err};
 ghost use Rattle.qc_codec.specs.Bodies as body;
 ghost use Rattle.qc_codec.specs.Ledger.{made_for, past_in};
-ghost use Rattle.qc_journal.specs.Image.{HasAt, bodies_of};
-ghost use Rattle.qc_journal.specs.Journal.{disk_of, limit_of, IsUp, Keeps};
+ghost use Rattle.qc_journal.specs.Image.{bodies_of};
+ghost use Rattle.qc_journal.specs.Journal.{disk_of, limit_of, IsUp};
 ghost use Rattle.qc_journal.specs.declared.fault.Fault.TheVariants.{Full};
 ghost use Rattle.qc_ledger.specs.Image.{made_body, epoch_body, made_where_none, to_write, AreMountableAsLedger, IsLedgerFault, AreLedgers, LAST_EPOCH};
-ghost use Rattle.qc_ledger.specs.Refusing.{IsLedgerRefusal, IsOfLedgerImage, IsOfBytes, IsOfWriting};
-ghost use Rattle.qc_ledger.specs.Mounted.{MountsLedger, MountLeaves, journal_of, records_of, disk_after, HasSome};
+ghost use Rattle.qc_ledger.specs.Refusing.{IsOfLedgerImage, IsOfBytes, IsOfWriting};
+ghost use Rattle.qc_ledger.specs.Mounted.{journal_of, HasSome};
+ghost use Rattle.qc_ledger.specs.Pairs.{own_after, spare_after, IsLedgerPairNo, MountsHalf, MountsLedgerPair};
 ghost use Rattle.qc_ledger.specs.Runs.{Costs, CostsOnce, HasMore, HaveRoomBehind, IsFullBehind, KeepsAll, Leaves, LosesNone};
+ghost use Rattle.qc_pair.specs.Fold.{swapped_in, IsFoldFor};
+ghost use Rattle.qc_pair.specs.Pair.{number_at, own_of, spare_of, swapped};
+ghost use Rattle.qc_pair.specs.declared.kind.Kind.TheVariants as kind;
 
 use crate::book::Book;
-use crate::fault::{LedgerNo, mount_no};
+use crate::fault::{LedgerNo, mount_no, pair_no};
 use crate::reading::past_of;
 use qc_codec::{LedgerRecord, Made, Past, copy_table, write_ledger, write_made};
 use qc_disk::Disk;
 use qc_event::{Short, Table};
 use qc_journal::{Body, Fault, Journal};
 use qc_names::lists::append_moved;
+use qc_pair::{Fold, Kind, Pair, PairNo, open};
 use std::alloc::{AllocError, Global};
 
 // Writes a record, and keeps its body.
@@ -190,53 +194,79 @@ pub(crate) fn begin<D: Disk>(
     }
 }
 
-/// Reads what stands on the ledger's disk, and writes how it was made, where nothing stands there, and this
-/// mounting's epoch. It gives what was told before, and the epoch. A refusal hands the disk back.
-pub fn mount<D: Disk>(
+// The body that says how the disk is made that is not active.
+fn made_other<D: Disk>(alloc: Global, pair: &Pair<D>, table: &Table) -> Result<Body, PairNo>
+    requires proper { (body.table 1).fits table.now }
+    ensures body { IfOk result (λ made. made.items ≡ made_body
+        (number_at (not (swapped pair.now)) 0) table.now) }
+    ensures memory { IfErr result (λ no. no ≡ PairNo.Memory) }
+{
+    match made_of(alloc, pair.other_disk(0), table) {
+        Ok((_, made)) => Ok(made),
+        Err(_) => Err(PairNo::Memory),
+    }
+}
+
+/// A refusal, with both disks of a pair.
+pub fn hand_back<D: Disk>(pair: Pair<D>, no: PairNo) -> (D, D, PairNo)
+    ensures own { result.0 ≡ disk_of (own_of pair) }
+    ensures spare { result.1 ≡ disk_of (spare_of pair) }
+    ensures no { result.2 ≡ no }
+{
+    let (disk, spare) = pair.into_disks();
+    (disk, spare, no)
+}
+
+/// Reads what stands on the active one of the ledger's disk and its spare, and writes there how it was made, where
+/// nothing stands, and this mounting's epoch. It gives with the book what it may be folded into, what was told before,
+/// and the epoch. A refusal hands both disks back.
+pub fn mount_pair<D: Disk>(
     alloc: Global,
     disk: D,
+    spare: D,
     table: &Table,
     limit: u64,
-) -> Result<(Book<D>, Past, u32), (D, LedgerNo)>
+) -> Result<(Book<D>, Fold<D>, Past, u32), (D, D, PairNo)>
     requires proper { (body.table 1).fits table.now }
 
-    // The past is what the records tell that were found, and the epoch, which stands behind them, is the next.
-    ensures mounts { IfOk result (λ mounted. MountsLedger 0 table.now limit (D.view disk).content
-        (records_of mounted.0) mounted.1 mounted.2) }
+    // The past is what the records tell that were found on the active disk, and the epoch, which stands behind them, is
+    // the next. Where that disk tells its bytes, each image has them from now on. The other keeps what it had.
+    ensures mounts { IfOk result (λ mounted. MountsLedgerPair table.now limit (D.view disk).content
+        (D.view spare).content mounted.0 mounted.1 mounted.2 mounted.3) }
     ensures limit { IfOk result (λ mounted. limit_of (journal_of mounted.0) ≡ limit) }
+    ensures fold { IfOk result (λ mounted. IsFoldFor mounted.1 limit
+        (made_body (number_at (not (swapped_in mounted.1)) 0) table.now) mounted.3
+        table.now.copies) }
 
-    // Where the disk tells its bytes, each image has these records from now on.
-    ensures keeps { IfOk result (λ mounted. IsSome (D.view disk).content
-        → Keeps (journal_of mounted.0) (records_of mounted.0)) }
+    // It is refused for the pair's first fault, where the disks tell their bytes.
+    ensures refused { IfErr result (λ refused. IsLedgerPairNo table.now limit (D.view disk).content
+        (D.view spare).content refused.2) }
 
-    // It is refused for the image's first fault, where the disk tells its bytes.
-    ensures refused { IfErr result (λ refused. IsLedgerRefusal table.now limit (D.view disk).content
-        refused.1) }
-
-    ensures any_moment { IsSome (D.view disk).content
-        → LeavesOnly D.view disk (disk_after result)
-        (MountLeaves (to_write 0 table.now) (D.view disk).may_leave (D.view disk).content) }
-    ensures grows { IsSome (D.view disk).content → (index : ℕ) (had : List ℕ)
-        → Grows D.view disk (disk_after result) (HasAt index had) }
-    ensures cause { HasCause (D.view disk).faults (D.view (disk_after result)).faults
-        (IsErrAnd result (λ refused. refused.1 ≡ LedgerNo.Disk)) }
-    ensures counts_once { CountsOnce (D.view disk).faults (D.view (disk_after result)).faults
-        (IsErrAnd result (λ refused. refused.1 ≡ LedgerNo.Disk)) }
+    // What it leaves of the disk, and of the spare.
+    ensures own { MountsHalf kind.Ledger 0 (D.view disk).content (D.view spare).content
+        (λ number. to_write number table.now) false D.view
+        (IsErrAnd result (λ refused. refused.2 ≡ PairNo.Disk 0)) disk (own_after result) }
+    ensures spare { MountsHalf kind.Ledger 0 (D.view disk).content (D.view spare).content
+        (λ number. to_write number table.now) true D.view
+        (IsErrAnd result (λ refused. refused.2 ≡ PairNo.Disk 17)) spare (spare_after result) }
 {
-    let (mut journal, mut bodies) = match Journal::mount(alloc, disk, limit) {
-        Ok(mounted) => mounted,
-        Err((disk, fault)) => return Err((disk, mount_no(0, fault))),
+    let (mut pair, mut bodies) = open(alloc, disk, spare, 0, Kind::Ledger, limit)?;
+    let active = pair.active_disk(0);
+    let made = match made_other(alloc, &pair, table) {
+        Ok(made) => made,
+        Err(no) => return Err(hand_back(pair, no)),
     };
-    match begin(alloc, 0, &mut journal, &mut bodies, table) {
+    match begin(alloc, active, &mut pair.active, &mut bodies, table) {
         Ok(past) => {
             let epoch = past.epoch + 1;
+            let (journal, fold) = pair.into_fold(made, epoch, table.copies);
             let book = Book {
                 alloc,
                 journal,
                 bodies,
             };
-            Ok((book, past, epoch))
+            Ok((book, fold, past, epoch))
         }
-        Err(no) => Err((journal.into_disk(), no)),
+        Err(no) => Err(hand_back(pair, pair_no(active, no))),
     }
 }

@@ -1,6 +1,6 @@
 -- Which fault of bodies is the first, and that it is handed on.
 use Rattle.std.proofs.Common.{◌≡◌, ℕ, ◌≤◌, List, [], ◌∷◌, refl, sym, ◌∙◌, subst}
-use Rattle.std.specs.Prelude.{Result, Ok, Err, IfErr, Option, IfSome, IsSome}
+use Rattle.std.specs.Prelude.{Result, Ok, Err, IfErr}
 use Rattle.std.specs.Result.{IsErrAnd, IsErrOf}
 use Rattle.qc_event.specs.declared.table.Table.{Table}
 use Rattle.qc_codec.specs.Bodies as body
@@ -10,13 +10,9 @@ use Rattle.qc_codec.specs.declared.image.ImageFault.TheVariants.{Broken, Grammar
 use Rattle.qc_codec.specs.declared.past.Past.{Past}
 use Rattle.qc_codec.proofs.Fits.{table_sized}
 use Rattle.qc_codec.proofs.Order.{each_none}
-use Rattle.qc_journal.specs.Fault.{IsOfReading}
-use Rattle.qc_journal.specs.Image.{HasRecords, IsBroken}
 use Rattle.qc_journal.specs.declared.fault.Fault.{Fault}
 use Rattle.qc_journal.specs.declared.fault.Fault.TheVariants as journal
-use Rattle.qc_ledger.specs.Image.{IsFirstFault}
 use Rattle.qc_ledger.specs.Refusing.{IsOfWriting}
-use Rattle.qc_ledger.proofs.Mounts.{first_told}
 use Rattle.qc_site.specs.Image.{AreMadeFor, IsCopyFault}
 use Rattle.qc_site.specs.Reading.{IsFirstBad, IsLaterBad}
 use Rattle.qc_site.specs.Refusing.{copy_mount_no, IsOfCopyImage, IsOfBytes}
@@ -57,13 +53,6 @@ module _ (disk : ℕ) where
   no_disk (Ok x) fault P same is of = absurd cc
   no_disk (Err e) fault P same is of = let one : e ≡ Disk = cc in subst (IsOfBytes disk P) (sym same ∙ one) is
 
-  image_also : (P Q : ImageFault → Type 0) → ((f : ImageFault) → P f → Q f) → (fault : SiteNo) → IsOfCopyImage disk P fault → IsOfCopyImage disk Q fault
-  image_also P Q also Disk is = tt
-  image_also P Q also (Image bad) is = (is.0, also bad.fault is.1)
-  image_also P Q also Strange is = is
-  image_also P Q also (Short short.Memory) is = tt
-  image_also P Q also (Short short.Room) is = is
-
   -- a fault of writing is that there is no room, or one of the disk or the memory
   pub write_refusal : (P : ImageFault → Type 0) (fault : Fault) → IsOfWriting fault → ((place : ℕ) → fault ≡ journal.Full place → P (Full place)) → IsOfCopyImage disk P (copy_mount_no disk fault)
   write_refusal P journal.Disk of full = tt
@@ -90,21 +79,3 @@ module _ (disk : ℕ) where
     later_fault bodies made (Full place) bad = absurd bad
     later_fault bodies made (OtherTable kept asked) bad = absurd bad
     later_fault bodies made (Epoch epoch) bad = bad
-
-    -- a fault is the first of the image that is told
-    abbrev IsFirstOf : Option (List ℕ) → ImageFault → Type 0
-    IsFirstOf told f = IfSome told (IsFirstFault (IsCopyFault disk table past limit) f)
-
-    -- the journal's fault is the image's first
-    pub mount_refusal : (told : Option (List ℕ)) (fault : Fault) → IsOfReading fault → ((place : ℕ) → fault ≡ journal.Broken place → IfSome told (IsBroken place)) → IsOfCopyImage disk (IsFirstOf told) (copy_mount_no disk fault)
-    mount_refusal told journal.Disk of broken = tt
-    mount_refusal told (journal.Broken place) of broken = (refl, broken place refl)
-    mount_refusal told (journal.Full place) of broken = absurd of
-    mount_refusal told journal.Memory of broken = tt
-
-    -- a fault of the bodies is the image's first
-    pub begin_refusal : (K : Type 0) (told : Option (List ℕ)) (kept : ℕ) (bodies : List (List ℕ)) → kept ≡ limit → IfSome told (HasRecords bodies) → (IsSome told → K) → (fault : SiteNo)
-        → IsOfCopyImage disk (λ f. K → IsCopyFault disk table past kept bodies f) fault → IsOfCopyImage disk (IsFirstOf told) fault
-    begin_refusal K told kept bodies same has keeps refused is =
-        image_also (λ f. K → IsCopyFault disk table past kept bodies f) (IsFirstOf told)
-        (λ f at. first_told (IsCopyFault disk table past limit) bodies (λ place broken. broken) told f has (λ some. subst (λ n. IsCopyFault disk table past n bodies f) same (at (keeps some)))) refused is

@@ -8,8 +8,7 @@ use Rattle.qc_disk.specs.declared.disk.Disk.{Ghosts}
 use Rattle.qc_event.specs.declared.short.Short.TheVariants as short
 use Rattle.qc_event.specs.declared.table.Table.{Table}
 use Rattle.qc_journal.specs.Journal.{Keeps}
-use Rattle.qc_ledger.proofs.Halves.{active_failed, active_fault, opened_half, LeavesHalf}
-use Rattle.qc_ledger.proofs.Mounts.{fine_told}
+use Rattle.qc_ledger.proofs.Halves.{active_failed, active_fault, fine_told, opened_half, LeavesHalf}
 use Rattle.qc_pair.specs.Fold.{active_number, other_in, swapped_in}
 use Rattle.qc_pair.specs.Opening.{active_told, HaveActive, IsPairRefusal, MountsDisk, OpensPair}
 use Rattle.qc_pair.specs.Pair.{active_of, number_at, number_of, other_of, swapped}

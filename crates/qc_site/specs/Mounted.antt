@@ -1,12 +1,11 @@
 -- What a mounting gives.
-use Rattle.std.specs.Prelude.{ℕ, ◌≡◌, List, ◌++◌, Option, IfSome, Result, Ok, Err}
+use Rattle.std.specs.Prelude.{ℕ, ◌≡◌, List, ◌++◌, Option, IfSome}
 use Rattle.qc_disk.specs.declared.disk.Disk.{Ghosts}
 use Rattle.qc_event.specs.declared.table.Table.{Table}
 use Rattle.qc_codec.specs.declared.past.Past.{Past}
 use Rattle.qc_journal.specs.Image.{HasRecords, bodies_of}
 use Rattle.qc_journal.specs.declared.journal.Journal.{Journal}
 use Rattle.qc_site.specs.Image.{AreGranted, AreMountableAsCopy, to_write}
-use Rattle.qc_site.specs.declared.fault.SiteNo.{SiteNo}
 use Rattle.qc_site.specs.declared.mounted.Mounted.{Mounted}
 
 -- which copy it is, and of how many
@@ -31,8 +30,3 @@ pub record MountsCopy (disk : ℕ) (table : Table) (past : Past) (limit : ℕ) (
   pub granted : AreGranted disk table past found
   pub fine : IfSome told (λ bytes. HasRecords found bytes × AreMountableAsCopy disk table past limit found)
   pub all : records ≡ found ++ to_write disk table found
-
--- the disk of a copy that was mounted, or that was handed back
-abbrev pub disk_after : {D : Type 0} {g : Ghosts D} → Result (Mounted D g) (D × SiteNo) → D
-disk_after (Ok mounted) = mounted.journal.disk
-disk_after (Err refused) = refused.0

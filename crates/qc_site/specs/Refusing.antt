@@ -1,14 +1,10 @@
 -- Why a mounting is refused.
-use Rattle.std.specs.Prelude.{ℕ, ◌≡◌, ◌+◌, List, Option, IfSome}
+use Rattle.std.specs.Prelude.{ℕ, ◌≡◌}
 use Rattle.qc_codec.specs.declared.image.ImageFault.{ImageFault}
 use Rattle.qc_codec.specs.declared.image.ImageFault.TheVariants as image
-use Rattle.qc_codec.specs.declared.past.Past.{Past}
 use Rattle.qc_event.specs.declared.short.Short.TheVariants.{Memory, Room}
-use Rattle.qc_event.specs.declared.table.Table.{Table}
 use Rattle.qc_journal.specs.declared.fault.Fault.{Fault}
 use Rattle.qc_journal.specs.declared.fault.Fault.TheVariants as fault
-use Rattle.qc_ledger.specs.Image.{IsFirstFault}
-use Rattle.qc_site.specs.Image.{IsCopyFault}
 use Rattle.qc_site.specs.declared.fault.SiteNo.{SiteNo}
 use Rattle.qc_site.specs.declared.fault.SiteNo.TheVariants.{Disk, Image, Strange, Short}
 
@@ -39,7 +35,3 @@ module _ (disk : ℕ) where
   IsOfBytes P Strange = ⊥
   IsOfBytes P (Short Memory) = Unit {0}
   IsOfBytes P (Short Room) = ⊥
-
--- a mounting may be refused: for the first fault of the image that is told, for the disk, or for memory
-abbrev pub IsCopyRefusal : ℕ → Table → Past → ℕ → Option (List ℕ) → SiteNo → Type 0
-IsCopyRefusal copy table past limit told refusal = IsOfCopyImage (copy + 1) (λ f. IfSome told (IsFirstFault (IsCopyFault (copy + 1) table past limit) f)) refusal

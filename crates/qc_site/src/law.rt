@@ -8,7 +8,7 @@ ghost use Rattle.qc_ledger.specs.Image.{IsFirstFault};
 ghost use Rattle.qc_site.specs.Image.{IsCopyFault, AreMountableAsCopy};
 
 /// The bodies of a copy's records have at most one first fault, and none where they can be mounted. So has an image.
-/// What `mount` answers is then the one fault that there is.
+/// What a mounting answers of the active disk is then the one fault that there is.
 pub fn one_verdict()
     ensures one { (disk : ℕ) (table : Table) (past : Past) (limit : ℕ)
         → (bodies : List (List ℕ)) (fault other : ImageFault)

@@ -1,23 +1,27 @@
-//! Mounting a copy's disk.
-ghost use Rattle.std.specs.Prelude.{ℕ, ◌≡◌, ◌<◌, ◌≤◌, ◌+◌, List, length, IfOk, IfErr, IsSome, OnOk, IsErrOf, IsErrAnd};
-ghost use Rattle.qc_disk.specs.Disk.{CountsOnce, HasCause, LeavesOnly, Grows};
+//! Mounting a copy's pair.
+ghost use Rattle.std.specs.Prelude.{◌≡◌, ◌<◌, ◌≤◌, ◌+◌, length, not, false, true, IfOk, IfErr, OnOk, IsErrOf, IsErrAnd};
 ghost use Rattle.qc_codec.specs.Base.{base_in, copy_base, tuples_of_base};
 ghost use Rattle.qc_codec.specs.Bodies as body;
 ghost use Rattle.qc_codec.specs.Copy.{grant_form};
 ghost use Rattle.qc_codec.specs.Ledger.{readings};
 ghost use Rattle.qc_codec.specs.Restored.{restored_row};
 ghost use Rattle.qc_desk.specs.Held.{from_row};
-ghost use Rattle.qc_journal.specs.Image.{HasAt, bodies_of};
-ghost use Rattle.qc_journal.specs.Journal.{disk_of, limit_of, IsUp, Keeps};
-ghost use Rattle.qc_ledger.specs.Mounted.{MountLeaves, HasSome};
+ghost use Rattle.qc_journal.specs.Image.{bodies_of};
+ghost use Rattle.qc_journal.specs.Journal.{limit_of, IsUp};
+ghost use Rattle.qc_ledger.specs.Mounted.{HasSome};
+ghost use Rattle.qc_ledger.specs.Pairs.{MountsHalf};
 ghost use Rattle.qc_ledger.specs.Runs.{Costs, CostsOnce, HasMore, KeepsAll, Leaves, LosesNone};
+ghost use Rattle.qc_pair.specs.Fold.{swapped_in, IsFoldFor};
+ghost use Rattle.qc_pair.specs.Pair.{number_at};
+ghost use Rattle.qc_pair.specs.declared.kind.Kind.TheVariants as kind;
 ghost use Rattle.qc_site.specs.Image.{made_body, to_write, AreGranted, AreMountableAsCopy, IsCopyFault};
-ghost use Rattle.qc_site.specs.Refusing.{IsCopyRefusal, IsOfCopyImage};
-ghost use Rattle.qc_site.specs.Mounted.{MountsCopy, copies_of, copy_of, journal_of, records_of, disk_after};
+ghost use Rattle.qc_site.specs.Mounted.{copies_of, copy_of, journal_of, records_of};
+ghost use Rattle.qc_site.specs.Pairs.{own_after, spare_after, IsCopyPairNo, MountsCopyPair};
+ghost use Rattle.qc_site.specs.Refusing.{IsOfCopyImage};
 ghost use Rattle.qc_site.specs.Start.{start_of};
 
 use crate::beginning::Beginning;
-use crate::fault::{SiteNo, mount_no};
+use crate::fault::{SiteNo, mount_no, pair_no};
 use crate::mounted::Mounted;
 use crate::reading::grants_of;
 use crate::start::restored_beginning;
@@ -25,7 +29,8 @@ use qc_codec::{Made, Past, copy_table, write_made};
 use qc_disk::Disk;
 use qc_event::Table;
 use qc_journal::{Body, Journal};
-use qc_ledger::make;
+use qc_ledger::{hand_back, make};
+use qc_pair::{Fold, Kind, PairNo, open};
 use std::alloc::{AllocError, Global};
 
 /// The body that says that the disk of a number was made for a table.
@@ -86,68 +91,76 @@ pub(crate) fn begin<D: Disk>(
     }
 }
 
-/// Reads what stands on a copy's disk, and writes how it was made, where nothing stands there. The past is what the
-/// ledger told before this mounting. It takes as many steps as there are bytes, for each grant a search among the names
-/// of those before it and one among the numbers of logged tops, and a look at the names that were aborted below the one
-/// found. A refusal hands the disk back.
-pub fn mount<D: Disk>(
+/// Reads what stands on the active one of a copy's disk and its spare, and writes there how it was made, where nothing
+/// stands. The past is what the ledger told before this mounting, and the epoch is the next, which a fold will have. It
+/// takes as many steps as there are bytes on both, for each active grant a search among the names of those before it
+/// and one among the numbers of logged tops, and a look at the names that were aborted below the one found. A refusal
+/// hands both disks back.
+pub fn mount_pair<D: Disk>(
     alloc: Global,
     copy: u8,
     disk: D,
+    spare: D,
     table: &Table,
     past: &Past,
+    epoch: u32,
     limit: u64,
-) -> Result<Mounted<D>, (D, SiteNo)>
+) -> Result<(Mounted<D>, Fold<D>), (D, D, PairNo)>
     requires copy { copy < table.now.copies }
     requires proper { (body.table 1).fits table.now }
+    requires begun { 0 < epoch }
 
-    // Records were found, which are this copy's for this table, in order behind this past.
-    ensures mounts { IfOk result (λ mounted. MountsCopy (copy + 1) table.now past.now limit
-        (D.view disk).content (records_of mounted)) }
-    ensures copy { IfOk result (λ mounted. (copy_of mounted ≡ copy)
-        × (copies_of mounted ≡ table.now.copies)) }
-    ensures limit { IfOk result (λ mounted. limit_of (journal_of mounted) ≡ limit) }
-    ensures up { IfOk result (λ mounted. IsUp (journal_of mounted)) }
+    // Records were found on the active disk, which are this copy's for this table, in order behind this past. Where it
+    // tells its bytes, each image has them from now on. The other keeps what it had.
+    ensures mounts { IfOk result (λ mounted. MountsCopyPair copy table.now past.now limit
+        (D.view disk).content (D.view spare).content mounted.0 mounted.1) }
+    ensures copy { IfOk result (λ mounted. (copy_of mounted.0 ≡ copy)
+        × (copies_of mounted.0 ≡ table.now.copies)) }
+    ensures limit { IfOk result (λ mounted. limit_of (journal_of mounted.0) ≡ limit) }
+    ensures up { IfOk result (λ mounted. IsUp (journal_of mounted.0)) }
+    ensures fold { IfOk result (λ mounted. IsFoldFor mounted.1 limit
+        (made_body (number_at (not (swapped_in mounted.1)) (copy + 1)) table.now) epoch
+        table.now.copies) }
 
     // It starts with what its records restore, by the tops that were logged, from the tuples of its base.
-    ensures start { IfOk result (λ mounted. start_of mounted ≡ restored_row past.now.tops
+    ensures start { IfOk result (λ mounted. start_of mounted.0 ≡ restored_row past.now.tops
         (length table.now.records)
-        (from_row (tuples_of_base table.now (base_in copy_base (records_of mounted))))
-        (readings (grant_form table.now) (records_of mounted))) }
+        (from_row (tuples_of_base table.now (base_in copy_base (records_of mounted.0))))
+        (readings (grant_form table.now) (records_of mounted.0))) }
 
-    // Where the disk tells its bytes, each image has these records from now on.
-    ensures keeps { IfOk result (λ mounted. IsSome (D.view disk).content
-        → Keeps (journal_of mounted) (records_of mounted)) }
+    // It is refused for the pair's first fault, where the disks tell their bytes.
+    ensures refused { IfErr result (λ refused. IsCopyPairNo copy table.now past.now limit
+        (D.view disk).content (D.view spare).content refused.2) }
 
-    // It is refused for the image's first fault, where the disk tells its bytes.
-    ensures refused { IfErr result (λ refused. IsCopyRefusal copy table.now past.now limit
-        (D.view disk).content refused.1) }
-
-    ensures any_moment { IsSome (D.view disk).content
-        → LeavesOnly D.view disk (disk_after result)
-        (MountLeaves (to_write (copy + 1) table.now) (D.view disk).may_leave
-        (D.view disk).content) }
-    ensures grows { IsSome (D.view disk).content → (index : ℕ) (had : List ℕ)
-        → Grows D.view disk (disk_after result) (HasAt index had) }
-    ensures cause { HasCause (D.view disk).faults (D.view (disk_after result)).faults
-        (IsErrAnd result (λ refused. refused.1 ≡ SiteNo.Disk)) }
-    ensures counts_once { CountsOnce (D.view disk).faults (D.view (disk_after result)).faults
-        (IsErrAnd result (λ refused. refused.1 ≡ SiteNo.Disk)) }
+    // What it leaves of the disk, and of the spare.
+    ensures own { MountsHalf kind.Copy (copy + 1) (D.view disk).content (D.view spare).content
+        (λ number. to_write number table.now) false D.view
+        (IsErrAnd result (λ refused. refused.2 ≡ PairNo.Disk (copy + 1))) disk (own_after result) }
+    ensures spare { MountsHalf kind.Copy (copy + 1) (D.view disk).content (D.view spare).content
+        (λ number. to_write number table.now) true D.view
+        (IsErrAnd result (λ refused. refused.2 ≡ PairNo.Disk (copy + 1 + 17))) spare
+        (spare_after result) }
 {
     let who = copy + 1;
-    let (mut journal, mut bodies) = match Journal::mount(alloc, disk, limit) {
-        Ok(mounted) => mounted,
-        Err((disk, fault)) => return Err((disk, mount_no(who, fault))),
+    let (mut pair, mut bodies) = open(alloc, disk, spare, who, Kind::Copy, limit)?;
+    let active = pair.active_disk(who);
+    let made = match made_of(alloc, pair.other_disk(who), table) {
+        Ok(made) => made,
+        Err(_) => return Err(hand_back(pair, PairNo::Memory)),
     };
-    match begin(alloc, who, &mut journal, &mut bodies, table, past) {
-        Ok(start) => Ok(Mounted {
-            alloc,
-            copy,
-            copies: table.copies,
-            journal,
-            bodies,
-            start,
-        }),
-        Err(no) => Err((journal.into_disk(), no)),
+    match begin(alloc, active, &mut pair.active, &mut bodies, table, past) {
+        Ok(start) => {
+            let (journal, fold) = pair.into_fold(made, epoch, table.copies);
+            let mounted = Mounted {
+                alloc,
+                copy,
+                copies: table.copies,
+                journal,
+                bodies,
+                start,
+            };
+            Ok((mounted, fold))
+        }
+        Err(no) => Err(hand_back(pair, pair_no(active, no))),
     }
 }

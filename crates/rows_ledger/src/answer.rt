@@ -3,6 +3,7 @@
 use qc_codec::Past;
 use qc_event::Name;
 use qc_ledger::LedgerNo;
+use qc_pair::PairNo;
 use rows_kit::said;
 use std::alloc::{AllocError, Global};
 
@@ -52,6 +53,14 @@ pub(crate) fn mounted(alloc: Global, epoch: u32, past: &Past) -> Result<String, 
         put_aborted(alloc, &mut text, logged.aborted.as_slice())?;
     }
     Ok(text)
+}
+
+/// Why a disk beside an empty spare is not mounted. It alone may fail.
+pub(crate) fn refused(alloc: Global, no: &PairNo) -> Result<String, AllocError> {
+    match no {
+        PairNo::Disk(_) => said(alloc, "the disk failed"),
+        PairNo::Image(_) | PairNo::Memory => no.to_string(alloc),
+    }
 }
 
 /// Which disk is active, by the number of the other one.

@@ -2,12 +2,12 @@
 ghost use Rattle.std.specs.Prelude.{IfOk, IfSome};
 ghost use Rattle.qc_codec.specs.Bodies as body;
 
-use crate::answer::{active, done, hand_text, mounted as mounted_text, no_such, not_now};
+use crate::answer::{active, done, hand_text, mounted as mounted_text, no_such, not_now, refused};
 use crate::folds::{Folds, Ready};
 use crate::state::State;
 use qc_codec::{LedgerRecord, Made, read_ledger};
 use qc_disk::MemDisk;
-use qc_ledger::{Shelf, mount, mount_pair};
+use qc_ledger::{Shelf, mount_pair};
 use rows_kit::{Step, bytes, made_of, said};
 use std::alloc::{AllocError, Global};
 
@@ -24,7 +24,7 @@ fn made(alloc: Global, step: &Step<'_>) -> Result<Option<Made>, AllocError>
     made_of(alloc, if step.word(1) == "x1" { X1 } else { X0 })
 }
 
-/// Mounts a ledger.
+/// Mounts a ledger beside an empty spare, which is dropped.
 pub(crate) fn mounted(
     alloc: Global,
     disk: MemDisk,
@@ -33,12 +33,13 @@ pub(crate) fn mounted(
     let Some(made) = made(alloc, step)? else {
         return State::Disk(disk).no_such(alloc);
     };
-    match mount(alloc, disk, &made.table, step.number(0)) {
-        Ok((book, past, epoch)) => {
+    let spare = MemDisk::new(Vec::new(alloc), Vec::new(alloc));
+    match mount_pair(alloc, disk, spare, &made.table, step.number(0)) {
+        Ok((book, _, past, epoch)) => {
             let text = mounted_text(alloc, epoch, &past)?;
             Ok((State::Book(book, epoch, Folds::NoSpare), text))
         }
-        Err((disk, no)) => Ok((State::Disk(disk), no.to_string(alloc)?)),
+        Err((disk, _, no)) => Ok((State::Disk(disk), refused(alloc, &no)?)),
     }
 }
 

@@ -8,7 +8,7 @@
 //! - `spare CALL done CALL not ..`: an empty spare in memory beside the disk. `other`: both change places.
 //! - `cut N`, `add HEX`, `fail CALL done ..`: of the disk, which is a new one of its bytes then. `bytes`, `calls`: of the
 //!   disk, and behind a stroke of its spare, where it has one.
-//! - `mount LIMIT TABLE`: mounts a ledger. `records`: of one that is mounted.
+//! - `mount LIMIT TABLE`: mounts a ledger beside an empty spare, which is dropped. `records`: of one that is mounted.
 //! - `pair LIMIT TABLE`: mounts a ledger from the active one of the disk and its spare, and tells which it is.
 //! - `desk BODY ..`: of one that is mounted. Over a desk of its own, tops are started and made ready in turn, and each is
 //!   logged by its record. Among them `revive` revives the ledger, and `fold` folds it into the other one of its pair,

@@ -3,6 +3,7 @@
 use qc_codec::{BaseRecord, read_base, read_grant};
 use qc_event::{Answered, Entry, Event, Grant, Op, Short};
 use qc_journal::Body;
+use qc_pair::PairNo;
 use qc_site::Strange;
 use rows_kit::said;
 use std::alloc::{AllocError, Global};
@@ -94,6 +95,14 @@ fn record(alloc: Global, body: &[u8]) -> Result<String, AllocError> {
     match read_grant(body, 1) {
         Ok(found) => grant(alloc, &found),
         Err(_) => said(alloc, ", no grant"),
+    }
+}
+
+/// Why a disk beside an empty spare is not mounted. It alone may fail.
+pub(crate) fn refused(alloc: Global, no: &PairNo) -> Result<String, AllocError> {
+    match no {
+        PairNo::Disk(_) => said(alloc, "the disk failed"),
+        PairNo::Image(_) | PairNo::Memory => no.to_string(alloc),
     }
 }
 

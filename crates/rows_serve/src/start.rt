@@ -4,13 +4,14 @@ ghost use Rattle.qc_codec.specs.Bodies as body;
 ghost use Rattle.qc_site.specs.Mounted.{copies_of, copy_of};
 ghost use Rattle.rows_serve.specs.TwoRecords as words;
 
+use crate::answer::refused;
 use crate::disks::Disks;
 use crate::folds::{Folds, Ready};
 use qc_codec::{Logged, Made, Names, Past, Tops};
 use qc_config::{Config, Tuple};
-use qc_disk::HomeDisk;
+use qc_disk::{HomeDisk, MemDisk};
 use qc_event::{Base, Table};
-use qc_site::{Mounted, mount, mount_pair};
+use qc_site::{Mounted, mount_pair};
 use rows_kit::{made_of, said};
 use std::alloc::{AllocError, Global};
 
@@ -70,6 +71,26 @@ fn both(
     }
 }
 
+// Mounts the disk beside an empty spare, which is dropped.
+fn alone(
+    alloc: Global,
+    own: HomeDisk,
+    table: &Table,
+    past: &Past,
+    limit: u64,
+) -> Result<Result<(Mounted<HomeDisk>, Folds), (Disks, String)>, AllocError>
+    requires proper { (body.table 1).fits table.now }
+    requires one { table.now.copies ≡ 1 }
+    ensures { IfOk result (λ r. IfOk r (λ m. (copy_of m.0 ≡ 0) × (copies_of m.0 ≡ 1))) }
+{
+    let spare = HomeDisk::Memory(MemDisk::new(Vec::new(alloc), Vec::new(alloc)));
+    let epoch = past.epoch.saturating_add(1);
+    match mount_pair(alloc, 0, own, spare, table, past, epoch, limit) {
+        Ok((copy, _)) => Ok(Ok((copy, Folds::NoSpare))),
+        Err((own, _, no)) => Ok(Err((Disks { own, spare: None }, refused(alloc, &no)?))),
+    }
+}
+
 /// Mounts the copy behind what a ledger told, and its spare too, where it has one. A refusal hands the disks back, with
 /// its text.
 pub(crate) fn mounted(
@@ -84,12 +105,9 @@ pub(crate) fn mounted(
         return Ok(Err((disks, said(alloc, "no table")?)));
     };
     let Disks { own, spare } = disks;
-    if let Some(spare) = spare {
-        return both(alloc, own, spare, &made.table, past, limit);
-    }
-    match mount(alloc, 0, own, &made.table, past, limit) {
-        Ok(copy) => Ok(Ok((copy, Folds::NoSpare))),
-        Err((own, no)) => Ok(Err((Disks { own, spare: None }, no.to_string(alloc)?))),
+    match spare {
+        Some(spare) => both(alloc, own, spare, &made.table, past, limit),
+        None => alone(alloc, own, &made.table, past, limit),
     }
 }
 

@@ -1,7 +1,8 @@
-//! What a mounted copy has, as text.
+//! What a mounted copy has, or why none is mounted, as text.
 
 use qc_config::Tuple;
-use rows_kit::tuple;
+use qc_pair::PairNo;
+use rows_kit::{said, tuple};
 use std::alloc::{AllocError, Global};
 
 /// The tuple of each record: its value and version, the read and write quorum of its configuration, and the generation.
@@ -12,4 +13,12 @@ pub(crate) fn tuples(alloc: Global, tuples: &[Tuple]) -> Result<String, AllocErr
         text.push_str(tuple(alloc, item)?.as_str())?;
     }
     Ok(text)
+}
+
+/// Why a disk beside an empty spare is not mounted. It alone may fail.
+pub(crate) fn refused(alloc: Global, no: &PairNo) -> Result<String, AllocError> {
+    match no {
+        PairNo::Disk(_) => said(alloc, "the disk failed"),
+        PairNo::Image(_) | PairNo::Memory => no.to_string(alloc),
+    }
 }

@@ -6,7 +6,7 @@
 //! - `image BODY ..`: a disk in memory with a journal of these records.
 //! - `cut N`, `add HEX`, `fail CALL done ..`, `bytes`, `calls`: of a disk. They make a new disk of its bytes.
 //! - `mount LIMIT MADE EPOCH TOP ..`: mounts the copy of which MADE tells, over the table of which it tells, behind a
-//!   ledger with this last epoch and these tops; MADE and each TOP are bodies.
+//!   ledger with this last epoch and these tops; MADE and each TOP are bodies. It has an empty spare, which is dropped.
 //! - `records`, `start`: of a mounted copy.
 //! - `back MADE OLD HAND GRANT ..`: mounts a journal on a disk, and reads it back: behind so many older records stand
 //!   these grants, and maybe the one in hand; `-` is none.

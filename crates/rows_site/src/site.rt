@@ -1,11 +1,12 @@
 //! Mounting a copy.
 ghost use Rattle.qc_codec.specs.Bodies as body;
 
+use crate::answer::refused;
 use crate::state::State;
 use qc_codec::{LedgerRecord, Logged, Made, Past, Tops, read_ledger};
 use qc_disk::MemDisk;
 use qc_names::lists::append_moved;
-use qc_site::mount;
+use qc_site::mount_pair;
 use rows_kit::{Step, bytes, made_of, said};
 use std::alloc::{AllocError, Global};
 
@@ -41,7 +42,7 @@ fn past_by(alloc: Global, epoch: u32, words: &[&str]) -> Result<Past, AllocError
     })
 }
 
-// Mounts the copy of a made record.
+// Mounts the copy of a made record beside an empty spare, which is dropped.
 fn mounted_by(
     alloc: Global,
     disk: MemDisk,
@@ -54,9 +55,12 @@ fn mounted_by(
     if made.who == 0 || made.who > made.table.copies {
         return State::Disk(disk).no_such(alloc);
     }
-    match mount(alloc, made.who - 1, disk, &made.table, past, limit) {
-        Ok(site) => Ok((State::Mounted(site), said(alloc, "ok")?)),
-        Err((disk, no)) => Ok((State::Disk(disk), no.to_string(alloc)?)),
+    let copy = made.who - 1;
+    let spare = MemDisk::new(Vec::new(alloc), Vec::new(alloc));
+    let epoch = past.epoch.saturating_add(1);
+    match mount_pair(alloc, copy, disk, spare, &made.table, past, epoch, limit) {
+        Ok((site, _)) => Ok((State::Mounted(site), said(alloc, "ok")?)),
+        Err((disk, _, no)) => Ok((State::Disk(disk), refused(alloc, &no)?)),
     }
 }
 

@@ -15,7 +15,7 @@ use Rattle.qc_pair.specs.Pair.{active_of, other_of, swapped}
 use Rattle.qc_pair.specs.declared.fault.PairNo.TheVariants as pair_no
 use Rattle.qc_pair.specs.declared.kind.Kind.TheVariants as kind
 use Rattle.qc_pair.proofs.Halves.{active_keeps}
-use Rattle.qc_ledger.proofs.pairs.mount_pair.Goals as goal
+use Rattle.qc_ledger.proofs.mounting.mount_pair.Goals as goal
 
 pub into_fold-journal-requires-clause-few : goal.into_fold-journal-requires-clause-few
 into_fold-journal-requires-clause-few g c = (table_sized c.args.table.now c.requires.proper).copies

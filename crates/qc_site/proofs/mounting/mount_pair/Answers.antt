@@ -17,7 +17,7 @@ use Rattle.qc_ledger.proofs.Firsts.{made_proper}
 use Rattle.qc_site.proofs.Faults.{few_copies}
 use Rattle.qc_site.proofs.PairMounts.{begin_refused, copy_mounted, none_fails, not_for_memory, other_number, own_refused, refused_fails, refused_so, spare_refused}
 use Rattle.qc_site.proofs.Rests.{start_told}
-use Rattle.qc_site.proofs.pairs.mount_pair.Goals as goal
+use Rattle.qc_site.proofs.mounting.mount_pair.Goals as goal
 
 pub overflow_add-who : goal.overflow_add-who
 overflow_add-who g c = omega (arith, c.requires.copy, few_copies c.args.table.now c.requires.proper)
