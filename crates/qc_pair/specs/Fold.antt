@@ -1,12 +1,10 @@
 -- The journal of a pair into which the active one is folded, and what a fold writes there.
-use Rattle.std.specs.Prelude.{ℕ, ◌≡◌, ◌<◌, ◌≤◌, ◌+◌, ◌^◌, ◌⊎◌, Bool, if◌then◌else◌, List, [], ◌∷◌, length}
-use Rattle.qc_codec.specs.Bodies as body
-use Rattle.qc_codec.specs.Fields.{format_1}
+use Rattle.std.specs.Prelude.{ℕ, ◌≡◌, Bool, if◌then◌else◌, List, [], ◌∷◌}
 use Rattle.qc_config.specs.declared.tuple.Tuple.{Tuple}
 use Rattle.qc_disk.specs.declared.disk.Disk.{Ghosts}
 use Rattle.qc_journal.specs.Journal.{disk_of, limit_of, IsUp}
 use Rattle.qc_journal.specs.declared.journal.Journal.{Journal}
-use Rattle.qc_pair.specs.Folding.{IsFullFold}
+use Rattle.qc_pair.specs.Folding.{HasNoRoom, next_base}
 use Rattle.qc_pair.specs.declared.fold.Fold.{Fold}
 
 module _ {D : Type 0} {g : Ghosts D} (fold : Fold D g) where
@@ -43,16 +41,15 @@ module _ {D : Type 0} {g : Ghosts D} (fold : Fold D g) where
 
   -- the body of the next base, with these tuples
   abbrev pub folded_base : List Tuple → List ℕ
-  folded_base tuples = (body.base (format_1 fold.copies) (length tuples)).spell (record { number = fold.number + 1; epoch = fold.epoch; tuples = tuples })
+  folded_base tuples = next_base fold.copies fold.number fold.epoch tuples
 
   -- what stands after a fold
   abbrev pub folded_bodies : List Tuple → List (List ℕ)
   folded_bodies tuples = made_in ∷ folded_base tuples ∷ []
 
-  -- A fold has no room at this place: there is no next number, or a body would pass the limit.
+  -- it has no room at this place
   abbrev pub IsFullFor : List Tuple → ℕ → Type 0
-  IsFullFor tuples place = ((place ≡ 0) × (2 ^ 63 ≤ fold.number))
-      ⊎ ((fold.number < 2 ^ 63) × IsFullFold (limit_of fold.other) made_in (folded_base tuples) place)
+  IsFullFor tuples place = HasNoRoom fold.number (limit_of fold.other) made_in (folded_base tuples) place
 
   -- It may be called: its journal is up, of this limit, and it writes this made record and this epoch for so many copies.
   pub record IsFoldFor (limit : ℕ) (made : List ℕ) (epoch copies : ℕ) : Type 0 where

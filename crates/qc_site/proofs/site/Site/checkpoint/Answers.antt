@@ -1,5 +1,7 @@
 use Rattle.std.proofs.Common.{inl, inr, ℕ, List, refl, arith, subst}
-use Rattle.std.specs.Prelude.{OnOk}
+use Rattle.std.specs.Prelude.{All, OnOk, length}
+use Rattle.qc_codec.specs.Fields as field
+use Rattle.qc_codec.specs.Fields.{format_1}
 use Rattle.qc_config.specs.declared.tuple.Tuple.{Tuple}
 use Rattle.qc_disk.specs.Disk.{LeavesOnly}
 use Rattle.qc_journal.specs.Journal.{disk_of, Keeps}
@@ -8,6 +10,7 @@ use Rattle.qc_ledger.proofs.Writing.{kept_has}
 use Rattle.qc_pair.specs.Fold.{folded_base, folded_bodies, made_in, other_in, IsFullFor}
 use Rattle.qc_pair.specs.Folding.{IsFolding}
 use Rattle.qc_site.specs.declared.fault.SiteNo.TheVariants.{Disk}
+use Rattle.qc_site.proofs.Backs.{on_ok}
 use Rattle.qc_site.proofs.Refusals.{handed_refusal, same_refusal}
 use Rattle.qc_site.proofs.site.Site.checkpoint.Goals as goal
 
@@ -30,7 +33,16 @@ returns-in_err-held-clause-cause g c = record {
   counts_other = record { once = omega arith; spared = λ never. refl };
 }
 
+pub returns-in_err-held-clause-fits : goal.returns-in_err-held-clause-fits
+returns-in_err-held-clause-fits g c = inl refl
+
 -- WHERE IT IS
+
+pub returns-clause-fits : goal.returns-clause-fits
+returns-clause-fits g c = inr (subst (λ (ts : List Tuple). All (field.tuple (format_1 (length g.N.Store.base))).fits ts) c.in_ok-held.ensures.held c.fold_in.ensures.fits)
+
+pub returns-clause-fit : goal.returns-clause-fit
+returns-clause-fit g c = on_ok c.fold_in.result (subst (λ (ts : List Tuple). All (field.tuple (format_1 (length g.N.Store.base))).fits ts) c.in_ok-held.ensures.held c.fold_in.ensures.fits)
 
 pub returns-clause-keeps : goal.returns-clause-keeps
 returns-clause-keeps g c =
