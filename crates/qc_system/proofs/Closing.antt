@@ -1,24 +1,25 @@
 -- How the copies leave, one after another, and what the closed history has of each.
 use Rattle.std.proofs.Common.{◌≡◌, ℕ, zero, suc, ◌+◌, ◌<◌, ◌≤◌, Bool, true, false, List, [], ◌∷◌, ◌++◌, length, refl, sym, ap, ◌∙◌, arith, subst, inl, inr}
 use Rattle.std.proofs.lemmas.Bool.Decides.{nat_tests}
-use Rattle.std.specs.Prelude.{◌⊎◌, cond, nat_lt, Some, slice_get}
+use Rattle.std.specs.Prelude.{◌⊎◌, nat_lt, Some, slice_get}
 use Rattle.std.proofs.Math.Logic.{∥∥₁_map}
 use Rattle.std.proofs.Math.Nat.{min-eq_left, min-eq_right}
 use Rattle.std.proofs.lemmas.List.{length-append}
 use Rattle.qc_disk.specs.Disk.{DiskView as Disk}
 use Rattle.qc_event.specs.Base.{Setting}
-use Rattle.qc_event.specs.History.{Past}
+use Rattle.qc_event.specs.History.{Past, limit}
+use Rattle.qc_event.specs.Standing.{HasEnded}
 use Rattle.qc_event.specs.Legal.{Legal}
 use Rattle.qc_event.specs.Listed.{listed}
 use Rattle.qc_event.specs.Seats.{copy_seat, ledger_seat}
 use Rattle.qc_desk.specs.declared.view.View.{View}
 use Rattle.qc_desk.specs.Entries.{IsOlder, entries_of}
-use Rattle.qc_desk.specs.Rules.{Has, IsSettled, joined, knows, without}
+use Rattle.qc_desk.specs.Rules.{Has, joined, knows, without}
 use Rattle.qc_desk.proofs.Having.{has_left}
 use Rattle.qc_desk.proofs.Seers.{older_trans}
-use Rattle.qc_system.specs.Closing.{AllKeep, CopyKeeps, DisksKeep, HaveLeft, Keeping, LedgerKeeps, PairKeeps, WasLeft}
+use Rattle.qc_system.specs.Closing.{active_of, other_of, CopyKeeps, CopyLeft, HaveLeft, IsFreeSince, Keeping, LedgerKeeps, WasLeft}
+use Rattle.qc_system.specs.Folds.{held_in, EndedSince, IsFolded, IsFree, IsLeftBy, WasFolded}
 use Rattle.qc_system.specs.Kept.{CopyHadNoRoom, HadNoRoom, NoneStrange, Pays, downs}
-use Rattle.qc_system.specs.Pairs.{own_then_spares}
 use Rattle.qc_system.specs.Parts.{Findings, IsClosing, IsThere}
 use Rattle.qc_ledger.specs.Since.{AreTopsBy}
 use Rattle.qc_site.specs.Since.{AreGrantsBy}
@@ -46,7 +47,7 @@ module _ {A : Type 0} where
 
 -- what an active disk keeps of what its pass has seen, it keeps of the closed history
 module _ (setting : Setting) (found : Findings) where
-  ledger_later : (seen log : Past) → IsOlder seen log → Legal setting log → Legal setting seen → entries_of ledger_seat log ≡ entries_of ledger_seat seen → (disk : Disk) → LedgerKeeps setting found disk seen → LedgerKeeps setting found disk log
+  pub ledger_later : (seen log : Past) → IsOlder seen log → Legal setting log → Legal setting seen → entries_of ledger_seat log ≡ entries_of ledger_seat seen → (disk : Disk) → LedgerKeeps setting found disk seen → LedgerKeeps setting found disk log
   ledger_later seen log since legal was_legal own disk was =
       let before = (found.active 0).before in
       let first = (found.active 0).first in
@@ -57,7 +58,7 @@ module _ (setting : Setting) (found : Findings) where
         full = λ told. subst (HadNoRoom (listed log) before found.limit) (sym own) (room_retold setting seen log since legal was_legal before found.limit (was.full told));
       }
 
-  copy_later : (k : ℕ) (seen log : Past) → IsOlder seen log → Legal setting log → entries_of (copy_seat k) log ≡ entries_of (copy_seat k) seen → (disk : Disk) → CopyKeeps setting found k disk seen → CopyKeeps setting found k disk log
+  pub copy_later : (k : ℕ) (seen log : Past) → IsOlder seen log → Legal setting log → entries_of (copy_seat k) log ≡ entries_of (copy_seat k) seen → (disk : Disk) → CopyKeeps setting found k disk seen → CopyKeeps setting found k disk log
   copy_later k seen log since legal own disk was =
       let before = (found.active (k + 1)).before in
       let first = (found.active (k + 1)).first in
@@ -74,106 +75,153 @@ module _ (setting : Setting) (found : Findings) {D : Type 0} (view : D → Disk)
   abbrev all : ℕ
   all = length setting.base
 
+  -- what was left by a copy's pass
+  abbrev CopyWas : View → ℕ → D → D → Type 0
+  CopyWas v k own spare = WasLeft setting found v (copy_seat k) (CopyKeeps setting found k) (active_of setting found (k + 1) (view own) (view spare))
+
   -- what was left is left when one more leaves
-  left_on : (pairs : List (D × D)) (x : D × D) (old new : View) (more : List (ℕ × Past)) (pair number : ℕ) (keeps : Keeping) → IsOlder old.seen new.seen → new.kin ≡ old.kin ++ more
-      → WasLeft setting found view pairs old pair number keeps → WasLeft setting found view (pairs ++ x ∷ []) new pair number keeps
-  left_on pairs x old new more pair number keeps older kin was = record {
+  left_on : (since : Past) (whole whole' : Bool) (pairs : List (D × D)) (x : D × D) (old new : View) (more : List (ℕ × Past)) (k : ℕ) → (whole' ≡ true → whole ≡ true) → IsOlder old.seen new.seen → new.kin ≡ old.kin ++ more
+      → CopyLeft setting found view since whole pairs old k → CopyLeft setting found view since whole' (pairs ++ x ∷ []) new k
+  left_on since whole whole' pairs x old new more k was_whole older kin was = record {
     own = was.own;
     spare = was.spare;
-    there = get_left pairs (x ∷ []) pair (was.own, was.spare) was.there;
-    seen = was.seen;
-    older = older_trans was.seen old.seen new.seen was.older older;
-    legal = was.legal;
-    joined = subst (λ l. Has l (number, entries_of number was.seen)) (sym kin) (has_left old.kin more (number, entries_of number was.seen) was.joined);
-    kept = was.kept;
+    there = get_left pairs (x ∷ []) k (was.own, was.spare) was.there;
+    left = record {
+      seen = was.left.seen;
+      older = older_trans was.left.seen old.seen new.seen was.left.older older;
+      legal = was.left.legal;
+      joined = subst (λ l. Has l (copy_seat k, entries_of (copy_seat k) was.left.seen)) (sym kin) (has_left old.kin more (copy_seat k, entries_of (copy_seat k) was.left.seen) was.left.joined);
+      kept = was.left.kept;
+    };
+    other = was.other;
+    folded = λ is. was.folded (was_whole is);
   }
 
-  -- the pair that leaves
-  left_now : (pairs : List (D × D)) (own spare : D) (kin more : List (ℕ × Past)) (new : View) (seen mine : Past) (pair number : ℕ) (keeps : Keeping) → length pairs ≡ pair → IsOlder seen new.seen → Legal setting seen
-      → mine ≡ entries_of number seen → new.kin ≡ kin ++ (number, mine) ∷ more → PairKeeps setting found pair keeps (view own) (view spare) seen → WasLeft setting found view (pairs ++ (own, spare) ∷ []) new pair number keeps
-  left_now pairs own spare kin more new seen mine pair number keeps size older legal entered is kept = record {
-    own = own;
-    spare = spare;
-    there = subst (λ i. slice_get (pairs ++ (own, spare) ∷ []) i ≡ Some (own, spare)) size (get_last pairs (own, spare));
+  -- it is among those that were joined
+  pub joined_now : (kin more : List (ℕ × Past)) (new : View) (seen mine : Past) (number : ℕ) → mine ≡ entries_of number seen → new.kin ≡ kin ++ (number, mine) ∷ more → Has new.kin (number, entries_of number seen)
+  joined_now kin more new seen mine number entered is =
+      subst (λ l. Has l (number, entries_of number seen)) (sym is) (subst (λ m. Has (kin ++ (number, m) ∷ more) (number, entries_of number seen)) (sym entered) (has_next kin more (number, entries_of number seen)))
+
+  -- a pass that was joined left what its disk keeps
+  pub left_now : (kin more : List (ℕ × Past)) (new : View) (seen mine : Past) (number : ℕ) (keeps : Keeping) (active : Disk) → IsOlder seen new.seen → Legal setting seen → mine ≡ entries_of number seen → new.kin ≡ kin ++ (number, mine) ∷ more
+      → keeps active seen → WasLeft setting found new number keeps active
+  left_now kin more new seen mine number keeps active older legal entered is kept = record {
     seen = seen;
     older = older;
     legal = legal;
-    joined = subst (λ l. Has l (number, entries_of number seen)) (sym is) (subst (λ m. Has (kin ++ (number, m) ∷ more) (number, entries_of number seen)) (sym entered) (has_next kin more (number, entries_of number seen)));
+    joined = joined_now kin more new seen mine number entered is;
     kept = kept;
   }
 
-  -- the ledger has left
-  pub ledger_left : (pairs pairs' : List (D × D)) (own spare : D) (kin more : List (ℕ × Past)) (new : View) (seen mine : Past) → pairs ≡ [] → IsOlder seen new.seen → Legal setting seen → mine ≡ entries_of ledger_seat seen
-      → new.kin ≡ kin ++ (ledger_seat, mine) ∷ more → pairs' ≡ pairs ++ (own, spare) ∷ [] → PairKeeps setting found 0 (LedgerKeeps setting found) (view own) (view spare) seen → HaveLeft setting found view 0 pairs' new
-  ledger_left pairs pairs' own spare kin more new seen mine none older legal entered is now kept = subst (λ ps. HaveLeft setting found view 0 ps new) (sym now) (record {
-    many = ap (λ ps. length (ps ++ (own, spare) ∷ [])) none ∙ omega (arith, min-eq_left {n = 0} {m = all} (omega arith));
-    ledger = left_now pairs own spare kin more new seen mine 0 ledger_seat (LedgerKeeps setting found) (ap length none) older legal entered is kept;
-    copies = λ k lt there. absurd (omega (arith, lt));
-  })
-
-  -- one more copy has left
-  pub one_more : (c : ℕ) (pairs pairs' : List (D × D)) (own spare : D) (old new : View) (more : List (ℕ × Past)) (seen mine : Past) → c < all → IsOlder old.seen new.seen → IsOlder seen new.seen → Legal setting seen
-      → mine ≡ entries_of (copy_seat c) seen → new.kin ≡ old.kin ++ (copy_seat c, mine) ∷ more → pairs' ≡ pairs ++ (own, spare) ∷ [] → PairKeeps setting found (c + 1) (CopyKeeps setting found c) (view own) (view spare) seen
-      → HaveLeft setting found view c pairs old → HaveLeft setting found view (c + 1) pairs' new
-  one_more c pairs pairs' own spare old new more seen mine lt older own_older legal entered is now kept h = subst (λ ps. HaveLeft setting found view (c + 1) ps new) (sym now) (record {
-    many = omega (arith, length-append pairs ((own, spare) ∷ []), h.many, min-eq_left {n = c} {m = all} (omega (arith, lt)), min-eq_left {n = c + 1} {m = all} (omega (arith, lt)));
-    ledger = left_on pairs (own, spare) old new ((copy_seat c, mine) ∷ more) 0 ledger_seat (LedgerKeeps setting found) older is h.ledger;
-    copies = λ k below there. by_case k there (before_or_at k c below);
-  })
-    where
-      size : length pairs ≡ c + 1
-      size = omega (arith, h.many, lt, min-eq_left {n = c} {m = all} (omega (arith, lt)))
-
-      by_case : (k : ℕ) → k < all → (k < c) ⊎ (k ≡ c) → WasLeft setting found view (pairs ++ (own, spare) ∷ []) new (k + 1) (copy_seat k) (CopyKeeps setting found k)
-      by_case k there (inl before) = left_on pairs (own, spare) old new ((copy_seat c, mine) ∷ more) (k + 1) (copy_seat k) (CopyKeeps setting found k) older is (h.copies k before there)
-      by_case k there (inr same) = subst (λ i. WasLeft setting found view (pairs ++ (own, spare) ∷ []) new (i + 1) (copy_seat i) (CopyKeeps setting found i)) (sym same)
-          (left_now pairs own spare old.kin more new seen mine (c + 1) (copy_seat c) (CopyKeeps setting found c) size own_older legal entered is kept)
-
-  -- a copy that is not there leaves nothing
-  pub no_more : (c : ℕ) (pairs : List (D × D)) (v : View) → all ≤ c → HaveLeft setting found view c pairs v → HaveLeft setting found view (c + 1) pairs v
-  no_more c pairs v le h = record {
-    many = omega (arith, h.many, le, min-eq_right {n = all} {m = c} le, min-eq_right {n = all} {m = c + 1} (omega (arith, le)));
-    ledger = h.ledger;
-    copies = λ k below there. h.copies k (omega (arith, below, there, le)) there;
+  -- a copy's pair leaves
+  pub copy_now : (since : Past) (whole : Bool) (pairs : List (D × D)) (own spare : D) (kin more : List (ℕ × Past)) (new : View) (seen mine : Past) (k : ℕ) → length pairs ≡ k → IsOlder seen new.seen → Legal setting seen → mine ≡ entries_of (copy_seat k) seen
+      → new.kin ≡ kin ++ (copy_seat k, mine) ∷ more → CopyKeeps setting found k (active_of setting found (k + 1) (view own) (view spare)) seen
+      → IsLeftBy setting found since (k + 1) (other_of setting found (k + 1) (view own) (view spare)) seen
+      → (whole ≡ true → WasFolded setting found since (k + 1) (other_of setting found (k + 1) (view own) (view spare)) seen
+      × IsFolded setting found (k + 1) (held_in setting found (k + 1) seen) (other_of setting found (k + 1) (view own) (view spare)))
+      → CopyLeft setting found view since whole (pairs ++ (own, spare) ∷ []) new k
+  copy_now since whole pairs own spare kin more new seen mine k size older legal entered is kept other folded = record {
+    own = own;
+    spare = spare;
+    there = subst (λ i. slice_get (pairs ++ (own, spare) ∷ []) i ≡ Some (own, spare)) size (get_last pairs (own, spare));
+    left = record {
+      seen = seen;
+      older = older;
+      legal = legal;
+      joined = joined_now kin more new seen mine (copy_seat k) entered is;
+      kept = kept;
+    };
+    other = other;
+    folded = folded;
   }
 
-  -- the history is closed
-  module _ (pairs : List (D × D)) (v : View) (log : Past) (older : IsOlder v.seen log) (legal : Legal setting log) (settled : IsSettled log v) where
-    own_of : (pair number : ℕ) (keeps : Keeping) (was : WasLeft setting found view pairs v pair number keeps) → entries_of number log ≡ entries_of number was.seen
-    own_of pair number keeps was = settled.1 number (entries_of number was.seen) was.joined
+  -- each top had its end up to a later time, so up to an earlier one
+  ended_less : (since old new : Past) → IsOlder old new → EndedSince since new → EndedSince since old
+  ended_less since old new older ended = λ at before after. ended at before (older_trans at old new after older)
 
-    older_of : (pair number : ℕ) (keeps : Keeping) (was : WasLeft setting found view pairs v pair number keeps) → IsOlder was.seen log
-    older_of pair number keeps was = older_trans was.seen v.seen log was.older older
+  -- what bars nobody at a later time barred nobody below
+  free_less : (since : Past) (pairs : List (D × D)) (x : D × D) (old new : View) (more : List (ℕ × Past)) (k : ℕ) → IsOlder old.seen new.seen → new.kin ≡ old.kin ++ more
+      → IsFreeSince setting found view since (pairs ++ x ∷ []) new k → IsFreeSince setting found view since pairs old k
+  free_less since pairs x old new more k older kin free = λ own spare seen there before after joined.
+      free own spare seen (get_left pairs (x ∷ []) k (own, spare) there) before (older_trans seen old.seen new.seen after older)
+      (subst (λ l. Has l (copy_seat k, entries_of (copy_seat k) seen)) (sym kin) (has_left old.kin more (copy_seat k, entries_of (copy_seat k) seen) joined))
 
-    -- what a pair keeps of the closed history, where its active disk does
-    closed : (pair number : ℕ) (keeps : Keeping) (was : WasLeft setting found view pairs v pair number keeps) → ((disk : Disk) → keeps disk was.seen → keeps disk log) → DisksKeep setting found view pairs pair keeps log
-    closed pair number keeps was later = record {
-      own = was.own;
-      spare = was.spare;
-      there = was.there;
-      kept = record { active = later (cond (found.swapped pair) (view was.spare) (view was.own)) was.kept.active; other = was.kept.other };
-    }
+  -- what is older is no longer
+  pub shorter : (old new : Past) → IsOlder old new → length new < limit → length old < limit
+  shorter old new older room = omega (arith, ap length older.1, length-append older.0 old, room)
 
-    ledger_keeps : WasLeft setting found view pairs v 0 ledger_seat (LedgerKeeps setting found) → DisksKeep setting found view pairs 0 (LedgerKeeps setting found) log
-    ledger_keeps was =
-        let own = own_of 0 ledger_seat (LedgerKeeps setting found) was in
-        let since = older_of 0 ledger_seat (LedgerKeeps setting found) was in
-        closed 0 ledger_seat (LedgerKeeps setting found) was (ledger_later setting found was.seen log since legal was.legal own)
+  -- one more copy has left
+  pub one_more : (since : Past) (c : ℕ) (whole whole' wanting wanting' : Bool) (pairs pairs' : List (D × D)) (own spare : D) (old new : View) (more : List (ℕ × Past)) (seen mine : Past) → c < all → IsOlder old.seen new.seen → IsOlder seen new.seen → Legal setting seen
+      → mine ≡ entries_of (copy_seat c) seen → new.kin ≡ old.kin ++ (copy_seat c, mine) ∷ more → pairs' ≡ pairs ++ (own, spare) ∷ [] → CopyKeeps setting found c (active_of setting found (c + 1) (view own) (view spare)) seen
+      → IsLeftBy setting found since (c + 1) (other_of setting found (c + 1) (view own) (view spare)) seen
+      → (whole' ≡ true → (whole ≡ true) × WasFolded setting found since (c + 1) (other_of setting found (c + 1) (view own) (view spare)) seen
+      × IsFolded setting found (c + 1) (held_in setting found (c + 1) seen) (other_of setting found (c + 1) (view own) (view spare)))
+      → (wanting' ≡ false → wanting ≡ false)
+      → (wanting' ≡ false → EndedSince since new.seen → length new.seen < limit → whole ≡ true
+      → (IsOlder since seen → IsFree setting found (c + 1) (held_in setting found (c + 1) seen) (active_of setting found (c + 1) (view own) (view spare)) (other_of setting found (c + 1) (view own) (view spare))) → whole' ≡ true)
+      → HaveLeft setting found view since c whole wanting pairs old → HaveLeft setting found view since (c + 1) whole' wanting' pairs' new
+  one_more since c whole whole' wanting wanting' pairs pairs' own spare old new more seen mine lt older own_older legal entered is now kept other folded wants free h =
+      subst (λ ps. HaveLeft setting found view since (c + 1) whole' wanting' ps new) (sym now) (record {
+        many = omega (arith, length-append pairs ((own, spare) ∷ []), h.many, min-eq_left {n = c} {m = all} (omega (arith, lt)), min-eq_left {n = c + 1} {m = all} (omega (arith, lt)));
+        copies = λ k below there. by_case k there (before_or_at k c below);
+        free = λ fine ended room each.
+            free fine ended room
+            (h.free (wants fine) (ended_less since old.seen new.seen older ended) (shorter old.seen new.seen older room)
+            (λ k below there. free_less since pairs (own, spare) old new ((copy_seat c, mine) ∷ more) k older is (each k (omega (arith, below)) there)))
+            (λ before. each c (omega arith) lt own spare seen (subst (λ i. slice_get (pairs ++ (own, spare) ∷ []) i ≡ Some (own, spare)) size (get_last pairs (own, spare))) before own_older
+            (joined_now old.kin more new seen mine (copy_seat c) entered is));
+      })
+    where
+      size : length pairs ≡ c
+      size = omega (arith, h.many, lt, min-eq_left {n = c} {m = all} (omega (arith, lt)))
 
-    copy_keeps : (k : ℕ) → WasLeft setting found view pairs v (k + 1) (copy_seat k) (CopyKeeps setting found k) → DisksKeep setting found view pairs (k + 1) (CopyKeeps setting found k) log
-    copy_keeps k was =
-        let own = own_of (k + 1) (copy_seat k) (CopyKeeps setting found k) was in
-        let since = older_of (k + 1) (copy_seat k) (CopyKeeps setting found k) was in
-        closed (k + 1) (copy_seat k) (CopyKeeps setting found k) was (copy_later setting found k was.seen log since legal own)
+      by_case : (k : ℕ) → k < all → (k < c) ⊎ (k ≡ c) → CopyLeft setting found view since whole' (pairs ++ (own, spare) ∷ []) new k
+      by_case k there (inl before) = left_on since whole whole' pairs (own, spare) old new ((copy_seat c, mine) ∷ more) k (λ w. (folded w).0) older is (h.copies k before there)
+      by_case k there (inr same) = subst (CopyLeft setting found view since whole' (pairs ++ (own, spare) ∷ []) new) (sym same)
+          (copy_now since whole' pairs own spare old.kin more new seen mine c size own_older legal entered is kept other (λ w. ((folded w).1, (folded w).2)))
 
-    pub all_left : (disks : List D) → disks ≡ own_then_spares pairs → all ≤ 16 → HaveLeft setting found view 16 pairs v → AllKeep setting found view disks log
-    all_left disks are few h = record {
-      pairs = pairs;
-      disks_are = are;
-      many = omega (arith, h.many, few, min-eq_right {n = all} {m = 16} few);
-      ledger = ledger_keeps h.ledger;
-      copies = λ k there. copy_keeps k (h.copies k (omega (arith, there, few)) there);
-    }
+  -- none has left yet
+  pub none_left : (since : Past) (whole wanting : Bool) (pairs : List (D × D)) (v : View) → pairs ≡ [] → IsOlder since v.seen → (wanting ≡ false → HasEnded since → whole ≡ true) → HaveLeft setting found view since 0 whole wanting pairs v
+  none_left since whole wanting pairs v none older free = record {
+    many = ap length none ∙ omega (arith, min-eq_left {n = 0} {m = all} (omega arith));
+    copies = λ k lt there. absurd (omega (arith, lt));
+    free = λ fine ended room each. free fine (ended since ([], refl) older);
+  }
+
+  -- a copy that is not there leaves nothing
+  pub no_more : (since : Past) (c : ℕ) (whole wanting : Bool) (pairs : List (D × D)) (v : View) → all ≤ c → HaveLeft setting found view since c whole wanting pairs v → HaveLeft setting found view since (c + 1) whole wanting pairs v
+  no_more since c whole wanting pairs v le h = record {
+    many = omega (arith, h.many, le, min-eq_right {n = all} {m = c} le, min-eq_right {n = all} {m = c + 1} (omega (arith, le)));
+    copies = λ k below there. h.copies k (omega (arith, below, there, le)) there;
+    free = λ fine ended room each. h.free fine ended room (λ k below there. each k (omega (arith, below)) there);
+  }
+
+  -- what a first pass has seen more, or joined, changes nothing of those that left
+  pub still_left : (since : Past) (c : ℕ) (whole wanting : Bool) (pairs : List (D × D)) (old new : View) (more : List (ℕ × Past)) → IsOlder old.seen new.seen → new.kin ≡ old.kin ++ more
+      → HaveLeft setting found view since c whole wanting pairs old → HaveLeft setting found view since c whole wanting pairs new
+  still_left since c whole wanting pairs old new more older kin h = record {
+    many = h.many;
+    copies = λ k below there.
+        let was = h.copies k below there in
+        record {
+          own = was.own;
+          spare = was.spare;
+          there = was.there;
+          left = record {
+            seen = was.left.seen;
+            older = older_trans was.left.seen old.seen new.seen was.left.older older;
+            legal = was.left.legal;
+            joined = subst (λ l. Has l (copy_seat k, entries_of (copy_seat k) was.left.seen)) (sym kin) (has_left old.kin more (copy_seat k, entries_of (copy_seat k) was.left.seen) was.left.joined);
+            kept = was.left.kept;
+          };
+          other = was.other;
+          folded = was.folded;
+        };
+    free = λ fine ended room each.
+        h.free fine (ended_less since old.seen new.seen older ended) (shorter old.seen new.seen older room)
+        (λ k below there own spare seen at before after joined. each k below there own spare seen at before (older_trans seen old.seen new.seen after older)
+        (subst (λ l. Has l (copy_seat k, entries_of (copy_seat k) seen)) (sym kin) (has_left old.kin more (copy_seat k, entries_of (copy_seat k) seen) joined)));
+  }
 
 -- WHICH COPIES ARE THERE
 

@@ -1,6 +1,7 @@
 -- What the first pass has once the passes of the ledger and of the copies are joined into it.
 use Rattle.std.proofs.Common.{◌≡◌, ℕ, ◌<◌, ◌≤◌, ◌⊎◌, inl, inr, [], ◌∷◌, ◌++◌, refl, sym, ap, ◌∙◌, arith, subst}
 use Rattle.qc_event.specs.History.{Past}
+use Rattle.qc_ledger.specs.Entered.{SeesMore}
 use Rattle.qc_desk.specs.declared.view.View.{View}
 use Rattle.qc_desk.specs.Entries.{entries_of}
 use Rattle.qc_desk.specs.Rules.{Has, IsSettled, joined, knows}
@@ -9,6 +10,14 @@ use Rattle.qc_system.specs.Parts.{JoinsLow}
 
 pub low_itself : (v : View) → JoinsLow v v
 low_itself v = record { mine = refl; still = λ k own h. h; no_other = λ k own lt h. h }
+
+-- a pass that has seen more joins none
+pub low_sees : (v w : View) → SeesMore v w → JoinsLow v w
+low_sees v w sees = record {
+  mine = sees.mine;
+  still = λ k own h. subst (λ l. Has l (k, own)) (sym sees.kin) h;
+  no_other = λ k own lt h. subst (λ l. Has l (k, own)) sees.kin h;
+}
 
 pub low_by_both : (a b c : View) → JoinsLow a b → JoinsLow b c → JoinsLow a c
 low_by_both a b c one two = record {

@@ -1,12 +1,17 @@
 pub mod Closing
+pub mod Ended
+pub mod Folds
 pub mod Grown
+pub mod HeldRows
 pub mod Joining
 pub mod Left
 pub mod Listed
 pub mod Opening
 pub mod OtherDisks
+pub mod OtherFolds
 pub mod Pairings
 pub mod Paying
 pub mod Room
+pub mod Settled
 pub mod Standing
 pub mod Unable

@@ -1,7 +1,7 @@
 -- How the first pass gives its passes away, one after another, and the copies are entered.
 use Rattle.std.proofs.Common.{◌≡◌, ℕ, ◌+◌, ◌<◌, ◌≤◌, ◌==◌, Bool, true, false, List, [], ◌∷◌, ◌++◌, length, refl, sym, ap, ap₂, ◌∙◌, subst, arith}
 use mathlib.Core.Bool.{true≢false}
-use Rattle.std.specs.Prelude.{min, slice_index_or, MatchBool, nat_lt, ◌&&◌}
+use Rattle.std.specs.Prelude.{slice_index_or, MatchBool, nat_lt, ◌&&◌}
 use Rattle.std.proofs.Math.Nat.{min-eq_left, min-eq_right}
 use Rattle.std.proofs.lemmas.List.{length-append}
 use Rattle.std.specs.List.{remove}
@@ -63,25 +63,51 @@ named_opens v is = subst (λ x. IsOpening x 0) (sym is) (record { live = refl; n
 
 -- the journal of a pair that was mounted was
 pub copy_of_pair : {D : Type 0} {g : Ghosts D} (base : List (List Tuple)) (found : Findings) (c : ℕ) (p : CopyPair D g) → IsMounted base found c p → IsCopy base found c p.copy
-copy_of_pair base found c p m = record { number = m.number; many = m.many; starts = m.starts; disk = m.disk; limit = m.limit }
+copy_of_pair base found c p m = m.active
 
 -- OTHER JOURNALS
 
-module _ {D : Type 0} {g : Ghosts D} (found : Findings) where
+module _ {D : Type 0} {g : Ghosts D} (copies : ℕ) (found : Findings) where
   -- one more behind others
-  others_more : (pair : ℕ) (fs : List (Fold D g)) (f : Fold D g) → AreOthers found pair fs → IsOther found (pair + length fs) f → AreOthers found pair (fs ++ f ∷ [])
-  others_more pair [] f are is = (subst (λ n. IsOther found n f) (omega arith) is, tt)
-  others_more pair (x ∷ fs) f are is = (are.0, others_more (pair + 1) fs f are.1 (subst (λ n. IsOther found n f) (omega arith) is))
+  others_more : (pair : ℕ) (fs : List (Fold D g)) (f : Fold D g) → AreOthers copies found pair fs → IsOther copies found (pair + length fs) f → AreOthers copies found pair (fs ++ f ∷ [])
+  others_more pair [] f are is = (subst (λ n. IsOther copies found n f) (omega arith) is, tt)
+  others_more pair (x ∷ fs) f are is = (are.0, others_more (pair + 1) fs f are.1 (subst (λ n. IsOther copies found n f) (omega arith) is))
 
+  -- of those that are there the first is the next pair's
+  pub first_other : (pair : ℕ) (fs : List (Fold D g)) (f : Fold D g) → 0 < length fs → f ≡ slice_index_or fs 0 f → AreOthers copies found pair fs → IsOther copies found pair f
+  first_other pair [] f some is are = absurd (omega (arith, some))
+  first_other pair (x ∷ fs) f some is are = subst (IsOther copies found pair) (sym is) are.0
+
+  -- and then come the others
+  pub rest_others : (pair : ℕ) (fs : List (Fold D g)) → 0 < length fs → AreOthers copies found pair fs → AreOthers copies found (pair + 1) (remove fs 0)
+  rest_others pair [] some are = absurd (omega (arith, some))
+  rest_others pair (x ∷ fs) some are = are.1
+
+  pub less_one : (fs : List (Fold D g)) → 0 < length fs → length (remove fs 0) + 1 ≡ length fs
+  less_one [] some = absurd (omega (arith, some))
+  less_one (x ∷ fs) some = omega arith
+
+  -- where none is there, each that is is so
+  pub no_others : (pair : ℕ) (fs : List (Fold D g)) → length fs ≡ 0 → AreOthers copies found pair fs
+  no_others pair [] none = tt
+  no_others pair (x ∷ fs) none = absurd (omega (arith, none))
+
+  -- the next one is taken from those that are kept back
+  pub taken_back : (copy : ℕ) (fs rest : List (Fold D g)) → copy < copies → rest ≡ remove fs 0 → AreKeptBack copies found copy fs → AreKeptBack copies found (copy + 1) rest
+  taken_back copy fs rest lt is h =
+      let some : 0 < length fs = omega (arith, h.0, lt) in
+      subst (AreKeptBack copies found (copy + 1)) (sym is) (omega (arith, less_one fs some, h.0), rest_others (copy + 1) fs some h.1)
+
+module _ {D : Type 0} {g : Ghosts D} (found : Findings) where
   -- the ledger is entered first
-  pub ledger_entered : (base : List (List Tuple)) (none : List (Fold D g)) (f : Fold D g) → none ≡ [] → IsOther found 0 f → HaveEntered base found 0 (none ++ f ∷ [])
+  pub ledger_entered : (base : List (List Tuple)) (none : List (Fold D g)) (f : Fold D g) → none ≡ [] → IsOther (length base) found 0 f → HaveEntered base found 0 (none ++ f ∷ [])
   ledger_entered base none f is other = subst (λ fs. HaveEntered base found 0 (fs ++ f ∷ [])) (sym is) (omega (arith, min-eq_left {n = 0} {m = length base} (omega arith)), (other, tt))
 
   -- one more copy
-  pub copy_entered : (base : List (List Tuple)) (c : ℕ) (fs : List (Fold D g)) (f : Fold D g) → c < length base → HaveEntered base found c fs → IsOther found (c + 1) f → HaveEntered base found (c + 1) (fs ++ f ∷ [])
+  pub copy_entered : (base : List (List Tuple)) (c : ℕ) (fs : List (Fold D g)) (f : Fold D g) → c < length base → HaveEntered base found c fs → IsOther (length base) found (c + 1) f → HaveEntered base found (c + 1) (fs ++ f ∷ [])
   copy_entered base c fs f lt h other =
       let here : length fs ≡ c + 1 = omega (arith, h.0, min-eq_left {n = c} {m = length base} (omega (arith, lt))) in
-      (omega (arith, length-append fs (f ∷ []), here, min-eq_left {n = c + 1} {m = length base} (omega (arith, lt))), others_more 0 fs f h.1 (subst (λ n. IsOther found n f) (omega (arith, here)) other))
+      (omega (arith, length-append fs (f ∷ []), here, min-eq_left {n = c + 1} {m = length base} (omega (arith, lt))), others_more (length base) found 0 fs f h.1 (subst (λ n. IsOther (length base) found n f) (omega (arith, here)) other))
 
   -- there is room for that
   pub room_for : (base : List (List Tuple)) (c : ℕ) (fs : List (Fold D g)) → c < length base → HaveEntered base found c fs → length fs < length base + 1
@@ -94,28 +120,3 @@ module _ {D : Type 0} {g : Ghosts D} (found : Findings) where
   -- all are
   pub all_entered : (base : List (List Tuple)) (fs : List (Fold D g)) → length base ≤ 16 → HaveEntered base found 16 fs → length fs ≡ length base + 1
   all_entered base fs few h = omega (arith, h.0, min-eq_right {n = length base} {m = 16} few)
-
-  -- of those that are there the first is the next pair's
-  pub first_other : (pair : ℕ) (fs : List (Fold D g)) (f : Fold D g) → 0 < length fs → f ≡ slice_index_or fs 0 f → AreOthers found pair fs → IsOther found pair f
-  first_other pair [] f some is are = absurd (omega (arith, some))
-  first_other pair (x ∷ fs) f some is are = subst (IsOther found pair) (sym is) are.0
-
-  -- and then come the others
-  pub rest_others : (pair : ℕ) (fs : List (Fold D g)) → 0 < length fs → AreOthers found pair fs → AreOthers found (pair + 1) (remove fs 0)
-  rest_others pair [] some are = absurd (omega (arith, some))
-  rest_others pair (x ∷ fs) some are = are.1
-
-  pub less_one : (fs : List (Fold D g)) → 0 < length fs → length (remove fs 0) + 1 ≡ length fs
-  less_one [] some = absurd (omega (arith, some))
-  less_one (x ∷ fs) some = omega arith
-
-  -- where none is there, each that is is so
-  pub no_others : (pair : ℕ) (fs : List (Fold D g)) → length fs ≡ 0 → AreOthers found pair fs
-  no_others pair [] none = tt
-  no_others pair (x ∷ fs) none = absurd (omega (arith, none))
-
-  -- the next one is taken from those that are kept back
-  pub taken_back : (copies : ℕ) (copy : ℕ) (fs rest : List (Fold D g)) → copy < copies → rest ≡ remove fs 0 → AreKeptBack copies found copy fs → AreKeptBack copies found (copy + 1) rest
-  taken_back copies copy fs rest lt is h =
-      let some : 0 < length fs = omega (arith, h.0, lt) in
-      subst (AreKeptBack copies found (copy + 1)) (sym is) (omega (arith, less_one fs some, h.0), rest_others (copy + 1) fs some h.1)

@@ -71,6 +71,11 @@ pub at_most : {A : Type 0} (f : Past → A) (these old new : Past) → f (these 
 at_most f these old new none (inl is) = ap f is
 at_most f these old new none (inr is) = ap f is ∙ none
 
+-- what enters at most the grant in hand costs nothing
+pub hand_pays : (copy : ℕ) (old new : Standing) (first before now : ℕ) → EntersHand copy old new → before ≤ now → Pays first (downs old.pass.mine) before → Pays first (downs new.pass.mine) now
+hand_pays copy old new first before now enters later pays =
+    subst (λ n. Pays first n now) (sym (at_most downs (hand_entries copy old.hand) old.pass.mine new.pass.mine (hand_none copy old.hand old.pass.mine) enters)) (pays_on first _ before now later pays)
+
 module _ (copy : ℕ) (ask : Ask) (old new : Standing) (first before now : ℕ) where
   same : EntersHand copy old new → downs new.pass.mine ≡ downs old.pass.mine
   same h = at_most downs (hand_entries copy old.hand) old.pass.mine new.pass.mine (hand_none copy old.hand old.pass.mine) h

@@ -36,31 +36,32 @@ use Rattle.qc_system.proofs.Room.{place_is}
 
 -- WHAT IS ENTERED
 
+-- whether a name is told to have been refused since the copy is strange
+abbrev told : Name → Past → Bool
+told n past = was_unable past n why.Strange
+
+hand_none : (copy : ℕ) (n : Name) (hand : Option Grant) (past : Past) → told n (hand_entries copy hand ++ past) ≡ told n past
+hand_none copy n None past = refl
+hand_none copy n (Some g) past = refl
+
+by_hand : (copy : ℕ) (old new : Standing) (n : Name) → EntersHand copy old new → told n new.pass.mine ≡ told n old.pass.mine
+by_hand copy old new n enters = at_most (told n) (hand_entries copy old.hand) old.pass.mine new.pass.mine (hand_none copy n old.hand old.pass.mine) enters
+
 module _ (copy : ℕ) (ask : Ask) (old new : Standing) (n : Name) where
-  abbrev told : Past → Bool
-  told past = was_unable past n why.Strange
-
-  hand_none : (hand : Option Grant) (past : Past) → told (hand_entries copy hand ++ past) ≡ told past
-  hand_none None past = refl
-  hand_none (Some g) past = refl
-
-  by_hand : EntersHand copy old new → told new.pass.mine ≡ told old.pass.mine
-  by_hand enters = at_most told (hand_entries copy old.hand) old.pass.mine new.pass.mine (hand_none old.hand old.pass.mine) enters
-
-  behind : (e : Entry) → ((past : Past) → told (e ∷ past) ≡ told past) → EntersThen copy old new e → told new.pass.mine ≡ told old.pass.mine
-  behind e none entered = ap told entered.all ∙ none entered.mid ∙ at_most told (hand_entries copy old.hand) old.pass.mine entered.mid (hand_none old.hand old.pass.mine) entered.first_of_all
+  behind : (e : Entry) → ((past : Past) → told n (e ∷ past) ≡ told n past) → EntersThen copy old new e → told n new.pass.mine ≡ told n old.pass.mine
+  behind e none entered = ap (told n) entered.all ∙ none entered.mid ∙ at_most (told n) (hand_entries copy old.hand) old.pass.mine entered.mid (hand_none copy n old.hand old.pass.mine) entered.first_of_all
 
   -- another reason
-  other_none : (other : Why) → is_why why.Strange other ≡ false → (past : Past) → told (unable_entry copy ask other ∷ past) ≡ told past
+  other_none : (other : Why) → is_why why.Strange other ≡ false → (past : Past) → told n (unable_entry copy ask other ∷ past) ≡ told n past
   other_none other is past = by_test (same ask.access n)
     where
-      by_test : (b : Bool) → (option_map_or (is_why why.Strange) (if b then Some other else None) false || told past) ≡ told past
-      by_test true = ap (λ c. c || told past) is
+      by_test : (b : Bool) → (option_map_or (is_why why.Strange) (if b then Some other else None) false || told n past) ≡ told n past
+      by_test true = ap (λ c. c || told n past) is
       by_test false = refl
 
   -- who is told to have been refused since the copy is strange was so before, or it is what is answered
-  by_answer : (said : Answered) → AnswerEnters copy ask said old new → told new.pass.mine ≡ true → (told old.pass.mine ≡ true) ⊎ (said ≡ answer.Strange)
-  by_answer (answer.Granted tuple) (inl enters) is = inl (sym (by_hand enters) ∙ is)
+  by_answer : (said : Answered) → AnswerEnters copy ask said old new → told n new.pass.mine ≡ true → (told n old.pass.mine ≡ true) ⊎ (said ≡ answer.Strange)
+  by_answer (answer.Granted tuple) (inl enters) is = inl (sym (by_hand copy old new n enters) ∙ is)
   by_answer (answer.Granted tuple) (inr entered) is = inl (sym (behind _ (λ past. refl) entered) ∙ is)
   by_answer (answer.Blocked holder) entered is = inl (sym (behind _ (λ past. refl) entered) ∙ is)
   by_answer (answer.Dead ancestor) entered is = inl (sym (behind _ (λ past. refl) entered) ∙ is)
@@ -68,10 +69,10 @@ module _ (copy : ℕ) (ask : Ask) (old new : Standing) (n : Name) where
   by_answer answer.Full entered is = inl (sym (behind _ (other_none why.Full refl) entered) ∙ is)
   by_answer answer.Strange entered is = inr refl
 
-  by_result : (r : Result Answered Short) → IfOk r (λ said. AnswerEnters copy ask said old new) → OnErr r (EntersHand copy old new) → told new.pass.mine ≡ true
-      → (told old.pass.mine ≡ true) ⊎ (r ≡ Ok answer.Strange)
+  by_result : (r : Result Answered Short) → IfOk r (λ said. AnswerEnters copy ask said old new) → OnErr r (EntersHand copy old new) → told n new.pass.mine ≡ true
+      → (told n old.pass.mine ≡ true) ⊎ (r ≡ Ok answer.Strange)
   by_result (Ok said) enters err is = elim (by_answer said enters is) [ inl was ↦ inl was | inr now ↦ inr (ap (λ x. Ok x) now) ]
-  by_result (Err short) enters err is = inl (sym (by_hand err) ∙ is)
+  by_result (Err short) enters err is = inl (sym (by_hand copy old new n err) ∙ is)
 
 -- WANT OF ROOM
 
@@ -140,13 +141,20 @@ module _ (setting : Setting) (copy : ℕ) (before : List (List ℕ)) (most : ℕ
       answer_room answer.Full entered full = one_more _ entered (λ mid is. full refl mid (ap (λ p. grants p copy) is ∙ append-nil (grants mid copy)))
       answer_room answer.Strange entered full = one_more _ entered (λ mid is. tt)
 
+  -- with at most the grant in hand more
+  pub hand_room : (old new : Standing) → EntersHand copy old new → IsOlder old.pass.seen new.pass.seen → CopyHadNoRoom setting copy before most old.pass.seen old.pass.mine → CopyHadNoRoom setting copy before most new.pass.seen new.pass.mine
+  hand_room old new enters older had = after_hand new.pass.seen old.hand old.pass.mine new.pass.mine enters (room_later old.pass.seen new.pass.seen old.pass.mine older had)
+
   pub serve_room : (ask : Ask) (old new : Standing) (r : Result Answered Short) → IfOk r (λ said. AnswerEnters copy ask said old new) → OnErr r (EntersHand copy old new) → IsOlder old.pass.seen new.pass.seen
       → (r ≡ Ok answer.Full → (own : Past) → grants new.pass.mine copy ≡ grants own copy → WasFullFor setting copy before most new.pass.seen own ask.access)
       → CopyHadNoRoom setting copy before most old.pass.seen old.pass.mine → CopyHadNoRoom setting copy before most new.pass.seen new.pass.mine
   serve_room ask old new (Ok said) enters err older full had = answer_room new.pass.seen ask old new (room_later old.pass.seen new.pass.seen old.pass.mine older had) said enters (λ is. full (ap (λ x. Ok x) is))
-  serve_room ask old new (Err short) enters err older full had = after_hand new.pass.seen old.hand old.pass.mine new.pass.mine err (room_later old.pass.seen new.pass.seen old.pass.mine older had)
+  serve_room ask old new (Err short) enters err older full had = hand_room old new err older had
 
 -- STRANGE
+
+pub hand_plain : (copy : ℕ) (old new : Standing) → EntersHand copy old new → NoneStrange old.pass.mine → NoneStrange new.pass.mine
+hand_plain copy old new enters none access unable = none access (sym (by_hand copy old new access enters) ∙ unable)
 
 pub serve_plain : (copy : ℕ) (ask : Ask) (old new : Standing) (r : Result Answered Short) → IfOk r (λ said. AnswerEnters copy ask said old new) → OnErr r (EntersHand copy old new) → (r ≡ Ok answer.Strange → ⊥) → NoneStrange old.pass.mine → NoneStrange new.pass.mine
 serve_plain copy ask old new r enters err never none access unable = elim (by_result copy ask old new access r enters err unable) [

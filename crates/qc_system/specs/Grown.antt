@@ -1,7 +1,8 @@
 -- How a disk has grown since its mounting.
-use Rattle.std.specs.Prelude.{◌<◌, ◌↔◌, ℕ, List, None}
+use Rattle.std.specs.Prelude.{◌<◌, ◌≤◌, ◌↔◌, ℕ, List, None}
 use Rattle.qc_disk.specs.Disk.{DiskView}
-use Rattle.qc_ledger.specs.Since.{GrownSince}
+use Rattle.qc_ledger.specs.Since.{AllLeft, GrownSince}
+use Rattle.qc_pair.specs.Folding.{IsFolding}
 
 -- at each moment before the one of the first, a crash left of the disk what it left of the first
 abbrev pub LeftAlike : DiskView → DiskView → Type 0
@@ -11,6 +12,12 @@ LeftAlike first disk = (t : ℕ) (c : List ℕ) → t < first.moment → disk.le
 pub record GrownFrom (first : DiskView) (before : List (List ℕ)) (May : List (List ℕ) → Type 0) (disk : DiskView) : Type 0 where
   pub began : LeftAlike first disk
   pub grown : GrownSince first.moment before May disk
+
+-- Before the first's moment a crash left of the disk what it left of the first. At each moment since, an image has the records from before, or none, or what a fold writes: how the disk was made, or that and a base.
+pub record FoldedFrom (first : DiskView) (before : List (List ℕ)) (made base : List ℕ) (disk : DiskView) : Type 0 where
+  pub began : LeftAlike first disk
+  pub later : first.moment ≤ disk.moment
+  pub each : (t : ℕ) → first.moment ≤ t → t ≤ disk.moment → AllLeft disk t (IsFolding before made base)
 
 -- a disk where a value is wanted and nothing is said of it
 abbrev pub no_disk : DiskView

@@ -1,4 +1,5 @@
 pub mod Closing
+pub mod Folds
 pub mod Grown
 pub mod Kept
 pub mod Left

@@ -7,7 +7,7 @@ use Rattle.qc_journal.specs.Journal.{disk_of, limit_of, IsUp, Keeps}
 use Rattle.qc_journal.specs.declared.journal.Journal.{Journal}
 use Rattle.qc_event.specs.History.{Past}
 use Rattle.qc_ledger.specs.Mounted as book
-use Rattle.qc_pair.specs.Fold.{other_in, swapped_in}
+use Rattle.qc_pair.specs.Fold.{active_number, copies_in, epoch_in, made_in, other_in, swapped_in}
 use Rattle.qc_pair.specs.declared.fold.Fold.{Fold}
 use Rattle.qc_desk.specs.declared.view.View.{View}
 use Rattle.qc_desk.specs.Rules.{Has}
@@ -53,19 +53,22 @@ pub record Found : Type 1 where
   pub first : Disk
 
 -- What was found of all pairs, by their numbers: whether the spare is active, what was found on the active disk, and what on the
--- other; and the most bytes of a journal.
+-- other; the number of the active one's base, and how the other is made. The most bytes of a journal, and the epoch of the run.
 pub record Findings : Type 1 where
   pub swapped : ℕ → Bool
   pub active : ℕ → Found
   pub other : ℕ → Found
+  pub number : ℕ → ℕ
+  pub made : ℕ → List ℕ
   pub limit : ℕ
+  pub epoch : ℕ
 
 -- nothing was found
 abbrev pub not_found : Found
 not_found = record { told = false; before = []; first = no_disk }
 
 abbrev pub no_findings : Findings
-no_findings = record { swapped = λ _. false; active = λ _. not_found; other = λ _. not_found; limit = 0 }
+no_findings = record { swapped = λ _. false; active = λ _. not_found; other = λ _. not_found; number = λ _. 0; made = λ _. []; limit = 0; epoch = 0 }
 
 -- This was found on a journal's disk: its records, which it keeps where it tells its bytes; and that it was this disk then, by its
 -- count of faults, its moment, and what a crash left before that.
@@ -76,22 +79,27 @@ pub record IsFound {D : Type 0} {g : Ghosts D} (found : Found) (records : List (
   pub at : found.first.moment ≡ (g.view (disk_of journal)).moment
   pub left : LeftAlike found.first (g.view (disk_of journal))
 
--- The other journal of a pair is up, and as it was found.
-pub record IsOther {D : Type 0} {g : Ghosts D} (found : Findings) (pair : ℕ) (fold : Fold D g) : Type 0 where
+-- The other journal of a pair, in a store of so many copies, is up, and as it was found; and so is what a fold writes there.
+pub record IsOther {D : Type 0} {g : Ghosts D} (copies : ℕ) (found : Findings) (pair : ℕ) (fold : Fold D g) : Type 0 where
   pub swapped : swapped_in fold ≡ found.swapped pair
   pub up : IsUp (other_in fold)
   pub disk : IsFound (found.other pair) (found.other pair).before (other_in fold)
+  pub limit : limit_of (other_in fold) ≡ found.limit
+  pub number : active_number fold ≡ found.number pair
+  pub made : made_in fold ≡ found.made pair
+  pub epoch : epoch_in fold ≡ found.epoch
+  pub many : copies_in fold ≡ copies
 
 -- The ledger was mounted so.
-pub record IsLedger {D : Type 0} {g : Ghosts D} (found : Findings) (ledger : LedgerPair D g) : Type 0 where
+pub record IsLedger {D : Type 0} {g : Ghosts D} (copies : ℕ) (found : Findings) (ledger : LedgerPair D g) : Type 0 where
   pub disk : IsFound (found.active 0) (book.records_of ledger.book) (book.journal_of ledger.book)
   pub limit : limit_of (book.journal_of ledger.book) ≡ found.limit
-  pub other : IsOther found 0 ledger.fold
+  pub other : IsOther copies found 0 ledger.fold
 
 -- The other journals of pairs from one on are so, in order.
-abbrev pub AreOthers : {D : Type 0} {g : Ghosts D} → Findings → ℕ → List (Fold D g) → Type 0
-AreOthers found pair [] = Unit {0}
-AreOthers found pair (f ∷ fs) = IsOther found pair f × AreOthers found (pair + 1) fs
+abbrev pub AreOthers : {D : Type 0} {g : Ghosts D} → ℕ → Findings → ℕ → List (Fold D g) → Type 0
+AreOthers copies found pair [] = Unit {0}
+AreOthers copies found pair (f ∷ fs) = IsOther copies found pair f × AreOthers copies found (pair + 1) fs
 
 -- The journal of this copy was mounted so, of a store whose copies start with these tuples.
 pub record IsCopy {D : Type 0} {g : Ghosts D} (base : List (List Tuple)) (found : Findings) (copy : ℕ) (mounted : Mounted D g) : Type 0 where
@@ -103,12 +111,8 @@ pub record IsCopy {D : Type 0} {g : Ghosts D} (base : List (List Tuple)) (found 
 
 -- This copy's pair was.
 pub record IsMounted {D : Type 0} {g : Ghosts D} (base : List (List Tuple)) (found : Findings) (copy : ℕ) (pair : CopyPair D g) : Type 0 where
-  pub number : copy_of pair.copy ≡ copy
-  pub many : copies_of pair.copy ≡ length base
-  pub starts : start_of pair.copy ≡ slice_index_or base copy []
-  pub disk : IsFound (found.active (copy + 1)) (records_of pair.copy) (journal_of pair.copy)
-  pub limit : limit_of (journal_of pair.copy) ≡ found.limit
-  pub other : IsOther found (copy + 1) pair.fold
+  pub active : IsCopy base found copy pair.copy
+  pub other : IsOther (length base) found (copy + 1) pair.fold
 
 -- the copies from this one on were mounted so, in order
 abbrev pub AreMounted : {D : Type 0} {g : Ghosts D} → List (List Tuple) → Findings → ℕ → List (CopyPair D g) → Type 0
@@ -121,14 +125,14 @@ AreWaiting base found copy ms = (length ms ≡ length base - copy) × AreMounted
 
 -- the ledger and the copies before this one were entered, and left their other journals
 abbrev pub HaveEntered : {D : Type 0} {g : Ghosts D} → List (List Tuple) → Findings → ℕ → List (Fold D g) → Type 0
-HaveEntered base found copy folds = (length folds ≡ min copy (length base) + 1) × AreOthers found 0 folds
+HaveEntered base found copy folds = (length folds ≡ min copy (length base) + 1) × AreOthers (length base) found 0 folds
 
 -- the other journals of the copies from this one on, of so many, are not yet handed back
 abbrev pub AreKeptBack : {D : Type 0} {g : Ghosts D} → ℕ → Findings → ℕ → List (Fold D g) → Type 0
-AreKeptBack copies found copy folds = (length folds ≡ copies - copy) × AreOthers found (copy + 1) folds
+AreKeptBack copies found copy folds = (length folds ≡ copies - copy) × AreOthers copies found (copy + 1) folds
 
 -- What stands beside a system of so many copies: the other journal of each pair, and empty room for the disks.
 pub record AreBeside {D : Type 0} {g : Ghosts (Boxed D)} (copies : ℕ) (found : Findings) (others : Others D g) : Type 0 where
   pub many : length others.folds.items ≡ copies + 1
-  pub are : AreOthers found 0 others.folds.items
+  pub are : AreOthers copies found 0 others.folds.items
   pub none : pairs_in others.returns ≡ []

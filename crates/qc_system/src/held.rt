@@ -1,5 +1,5 @@
 //! A copy's site in its lock.
-ghost use Rattle.std.specs.Prelude.{◌≡◌, ◌<◌, ◌+◌, [], true, false, IfOk, IsErrOf, is_some, length};
+ghost use Rattle.std.specs.Prelude.{◌≡◌, ◌≢◌, ◌<◌, ◌+◌, [], true, false, IfOk, IsErrOf, is_some, length};
 ghost use Rattle.qc_event.specs.Base.{IsProper};
 ghost use Rattle.qc_event.specs.declared.short.Short.TheVariants.{Room};
 ghost use Rattle.qc_event.specs.History.{limit};
@@ -9,23 +9,26 @@ ghost use Rattle.qc_event.specs.Tables.{setting_of};
 ghost use Rattle.qc_journal.specs.Journal.{disk_of, limit_of};
 ghost use Rattle.qc_ledger.specs.Entered.{SeesMore};
 ghost use Rattle.qc_desk.specs.Consulting.{HasAsked};
-ghost use Rattle.qc_desk.specs.Entries.{entries_of};
+ghost use Rattle.qc_desk.specs.Entries.{entries_of, IsOlder};
 ghost use Rattle.qc_desk.specs.Known.{IsKnown};
+ghost use Rattle.qc_pair.specs.Fold.{other_in, own_disk, spare_disk, swapped_in};
 ghost use Rattle.qc_site.specs.Answers.{HasAnswered};
 ghost use Rattle.qc_site.specs.Calls.{CanServe};
 ghost use Rattle.qc_site.specs.Log.{log_journal};
 ghost use Rattle.qc_site.specs.Sites.{LeavesUp};
-ghost use Rattle.qc_system.specs.Closing.{CopyKeeps, PairKeeps};
+ghost use Rattle.qc_system.specs.Closing.{CopyKeeps};
+ghost use Rattle.qc_system.specs.Folds.{held_in, EndedSince, IsFolded, IsFree, IsLeftBy, WasFolded};
 ghost use Rattle.qc_system.specs.Kept.{KeepsSince, NoRoomSince, NoneStrange, Pays, downs};
 ghost use Rattle.qc_system.specs.Parts.{IsCopy, IsOther};
 
 use crate::boxed::Boxed;
+use crate::folding::Outcome;
 use crate::mounting::Mounting;
 use qc_desk::{Desk, Pass};
 use qc_disk::Disk;
 use qc_event::{Answered, Ask, Short};
 use qc_pair::Fold;
-use qc_site::{Mounted, Site};
+use qc_site::{Mounted, Site, SiteNo};
 use std::sync::Wait;
 
 /// A copy's site in its lock. Its active disk keeps what was found there at the mounting, and what the copy granted since;
@@ -46,6 +49,17 @@ where
         N.found.limit site.replica ∥₁ },
     ghost plain: { ∥ ((N.found.active (C + 1)).told ≡ true
         → (is_some site.strange ≡ false) × NoneStrange site.replica.pass.mine) ∥₁ },
+}
+
+// What becomes of a pair where its fold is answered so.
+fn unfolded(no: SiteNo) -> Outcome
+    ensures not_folded { result ≢ Outcome.Folded }
+    ensures refused { result ≡ Outcome.Refused → no ≢ SiteNo.Short Short.Memory }
+{
+    match no {
+        SiteNo::Short(Short::Memory) => Outcome::Wanting,
+        _ => Outcome::Refused,
+    }
 }
 
 impl<D: Disk + Drop, N: Mounting, const C: u8> Held<D, N, C> {
@@ -96,17 +110,59 @@ impl<D: Disk + Drop, N: Mounting, const C: u8> Held<D, N, C> {
         }
     }
 
+    /// Folds what the copy holds into the other journal of its pair, once each top has its end, by all that the seer has
+    /// then seen.
+    pub(crate) fn fold<R: Wait>(
+        &mut self,
+        rt: &R,
+        desk: &Desk<N>,
+        seer: &mut Pass<N>,
+        fold: &mut Fold<Boxed<D>>,
+    ) -> Outcome
+        requires proper { IsProper (setting_of N.table N.base) }
+        requires inside { C < length N.base }
+        requires other { IsOther (length N.base) N.found (C + 1) fold.old }
+        ensures seer { SeesMore seer.old seer.new }
+        ensures swapped { swapped_in fold.new ≡ N.found.swapped (C + 1) }
+        ensures left { IsLeftBy (setting_of N.table N.base) N.found seer.old.seen (C + 1)
+            (D.view (disk_of (other_in fold.new)).disk.value) self.new.site.replica.pass.seen }
+        ensures folded { result ≡ Outcome.Folded
+            → WasFolded (setting_of N.table N.base) N.found seer.old.seen (C + 1)
+            (D.view (disk_of (other_in fold.new)).disk.value) self.new.site.replica.pass.seen
+            × IsFolded (setting_of N.table N.base) N.found (C + 1)
+            (held_in (setting_of N.table N.base) N.found (C + 1) self.new.site.replica.pass.seen)
+            (D.view (disk_of (other_in fold.new)).disk.value) }
+        ensures barred { result ≡ Outcome.Refused → EndedSince seer.old.seen seer.new.seen
+            → length self.new.site.replica.pass.seen < limit
+            → (IsOlder seer.old.seen self.new.site.replica.pass.seen
+            → IsFree (setting_of N.table N.base) N.found (C + 1)
+            (held_in (setting_of N.table N.base) N.found (C + 1) self.new.site.replica.pass.seen)
+            (D.view (disk_of (log_journal self.new.site.log)).disk.value)
+            (D.view (disk_of (other_in fold.new)).disk.value)) → ⊥ }
+    {
+        if !desk.settled(rt, seer) {
+            return Outcome::Refused;
+        }
+        match self.site.checkpoint(rt, desk, seer, fold) {
+            Ok(()) => Outcome::Folded,
+            Err(no) => unfolded(no),
+        }
+    }
+
     /// The disk, its spare, and the pass. The other one of both disks is handed in.
     pub(crate) fn leave(self, fold: Fold<Boxed<D>>) -> (D, D, Pass<N>)
-        requires other { IsOther N.found (C + 1) fold }
+        ensures own { result.0
+            ≡ (own_disk fold (disk_of (log_journal self.site.log))).disk.value }
+        ensures spare { result.1
+            ≡ (spare_disk fold (disk_of (log_journal self.site.log))).disk.value }
+        ensures same { result.2 ≡ self.site.replica.pass }
         ensures pass { (result.2.live ≡ true) × (result.2.number ≡ copy_seat C)
             × (result.2.out ≡ []) }
         ensures kin { result.2.kin ≡ [] }
         ensures legal { Legal (setting_of N.table N.base) result.2.seen }
-        ensures own { result.2.mine ≡ entries_of (copy_seat C) result.2.seen }
-        ensures kept { PairKeeps (setting_of N.table N.base) N.found (C + 1)
-            (CopyKeeps (setting_of N.table N.base) N.found C) (D.view result.0) (D.view result.1)
-            result.2.seen }
+        ensures mine { result.2.mine ≡ entries_of (copy_seat C) result.2.seen }
+        ensures kept { CopyKeeps (setting_of N.table N.base) N.found C
+            (D.view (disk_of (log_journal self.site.log)).disk.value) result.2.seen }
     {
         let (active, pass) = self.site.into_parts();
         let (disk, spare) = fold.into_disks(active);

@@ -3,6 +3,7 @@
 
 mod boxed;
 mod finish;
+mod folding;
 mod held;
 mod held_ledger;
 mod mounting;

@@ -62,7 +62,7 @@ impl<D: Disk + Drop, N: Mounting> System<D, N> {
         requires proper { IsProper (setting_of N.table N.base) }
         requires none { (pairs_in parts.returns ≡ []) × (parts.folds.items ≡ []) }
         requires room { length N.base + 1 ≤ vec_capacity parts.folds }
-        requires ledger { IsLedger N.found parts.ledger }
+        requires ledger { IsLedger (length N.base) N.found parts.ledger }
         requires many { length parts.copies.items ≡ length N.base }
         requires copies { AreMounted N.base N.found 0 parts.copies.items }
         ensures first { IsOpening result.2 17 }

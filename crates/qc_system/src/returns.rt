@@ -28,6 +28,17 @@ fn put_behind<T: Drop>(all: &mut Vec<T>, mut more: Vec<T>)
     }
 }
 
+// Puts an item before others.
+fn put_before<T: Drop>(all: &mut Vec<T>, item: T)
+    requires room { length all.old.items < vec_capacity all.old }
+    ensures items { all.new.items ≡ item ∷ all.old.items }
+    ensures capacity { vec_capacity all.new ≡ vec_capacity all.old }
+{
+    all.as_mut_slice().reverse();
+    all.push_reserved(item);
+    all.as_mut_slice().reverse();
+}
+
 impl<D: Drop> Returns<D> {
     ghost use Rattle.qc_system.specs.Pairs.{own_then_spares, pairs_in};
 
@@ -48,6 +59,15 @@ impl<D: Drop> Returns<D> {
     {
         self.disks.push_reserved(disk);
         self.spares.push_reserved(spare);
+    }
+
+    /// Puts a disk and its spare before the others.
+    pub fn put_first(&mut self, disk: D, spare: D)
+        requires { length (pairs_in self.old) < 17 }
+        ensures { pairs_in self.new ≡ (disk, spare) ∷ pairs_in self.old }
+    {
+        put_before(&mut self.disks, disk);
+        put_before(&mut self.spares, spare);
     }
 
     /// The disks in their order, and then their spares.

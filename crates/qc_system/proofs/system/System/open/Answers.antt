@@ -1,5 +1,5 @@
 -- The ledger is entered, and then the copies, one after another.
-use Rattle.std.proofs.Common.{◌≡◌, ◌∙◌, ◌≤◌, ap, arith, length, subst, sym}
+use Rattle.std.proofs.Common.{◌≡◌, ◌∙◌, ap, arith, length, subst, sym}
 use Rattle.qc_system.specs.Parts.{HaveEntered, IsOpening}
 use Rattle.qc_system.proofs.Opening.{all_entered, given_next, ledger_entered, named_opens, opens_next}
 use Rattle.qc_system.proofs.system.System.open.Goals as goal
