@@ -1,6 +1,8 @@
 -- What was found on each pair of disks of a store that was mounted.
 use Rattle.std.proofs.Common.{◌≡◌, ℕ, ◌+◌, ◌≤◌, Bool, true, false, List, [], ◌∷◌, map, refl, sym, ap, ap₂, ◌∙◌, subst}
-use Rattle.std.specs.Prelude.{if◌then◌else◌, Option, IfSome, IsSome, is_some, slice_index_or}
+use Rattle.std.specs.Prelude.{if◌then◌else◌, not, Option, IfSome, IsSome, is_some, slice_index_or}
+use Rattle.qc_codec.specs.Bodies as body
+use Rattle.qc_codec.specs.Ledger.{made_for}
 use Rattle.qc_disk.specs.Disk.{DiskView}
 use Rattle.qc_disk.specs.declared.disk.Disk.{Ghosts}
 use Rattle.qc_event.specs.declared.table.Table.{Table}
@@ -10,11 +12,12 @@ use Rattle.qc_journal.specs.declared.journal.Journal.{Journal}
 use Rattle.qc_ledger.specs.Mounted as book
 use Rattle.qc_ledger.proofs.Writing.{kept_has}
 use Rattle.qc_opening.specs.Disks.{told_by}
-use Rattle.qc_opening.specs.Pairs.{of_active, of_other}
+use Rattle.qc_opening.specs.Pairs.{made_other, of_active, of_other}
 use Rattle.qc_opening.specs.Parts.{counted_by}
 use Rattle.qc_opening.specs.Stored.{WasMounted}
 use Rattle.qc_opening.proofs.ReadBodies.{bodies_told, told_read}
-use Rattle.qc_pair.specs.Fold.{other_in, own_disk, spare_disk, swapped_in}
+use Rattle.qc_pair.specs.Fold.{active_number, copies_in, epoch_in, made_in, other_in, own_disk, spare_disk, swapped_in}
+use Rattle.qc_pair.specs.Pair.{number_at}
 use Rattle.qc_pair.specs.declared.fold.Fold.{Fold}
 use Rattle.qc_site.specs.Mounted as copy
 use Rattle.qc_system.specs.Grown.{LeftAlike}
@@ -47,9 +50,17 @@ module _ {D : Type 0} {g : Ghosts D} where
   abbrev pub other_found : LedgerPair D g → List (CopyPair D g) → ℕ → D
   other_found ledger copies pair = slice_index_or (disk_of (other_in ledger.fold) ∷ map (λ p. disk_of (other_in p.fold)) copies) pair (disk_of (other_in ledger.fold))
 
+  -- the number of the base of its active disk
+  abbrev pub numbers_found : LedgerPair D g → List (CopyPair D g) → ℕ → ℕ
+  numbers_found ledger copies pair = slice_index_or (active_number ledger.fold ∷ map (λ p. active_number p.fold) copies) pair 0
+
   -- the most bytes of a journal
   abbrev pub limit_found : LedgerPair D g → ℕ
   limit_found ledger = limit_of (book.journal_of ledger.book)
+
+  -- the epoch of the run
+  abbrev pub epoch_found : LedgerPair D g → ℕ
+  epoch_found ledger = epoch_in ledger.fold
 
   module _ (table : Table) (told : List (Option (List ℕ))) (ledger : LedgerPair D g) (copies : List (CopyPair D g)) where
     -- what the active disk of a pair told, and the other one
@@ -66,7 +77,15 @@ module _ {D : Type 0} {g : Ghosts D} where
     found_on_other pair = record { told = is_some (other_told pair); before = bodies_told (other_told pair); first = g.view (other_found ledger copies pair) }
 
     abbrev pub found_of : Findings
-    found_of = record { swapped = swapped_found ledger copies; active = found_on_active; other = found_on_other; limit = limit_found ledger }
+    found_of = record {
+      swapped = swapped_found ledger copies;
+      active = found_on_active;
+      other = found_on_other;
+      number = numbers_found ledger copies;
+      made = λ pair. made_other table (swapped_found ledger copies) pair;
+      limit = limit_found ledger;
+      epoch = epoch_found ledger;
+    }
 
     module _ (counts : List ℕ) where
       -- A pair was mounted from these disks, with this active journal and these records.
@@ -87,6 +106,11 @@ module _ {D : Type 0} {g : Ghosts D} where
         pub others : List (List ℕ)
         pub others_had : IfSome (if swapped_in fold then (g.view disks.0).content else (g.view disks.1).content) (HasRecords others)
         pub keeps_other : IsSome (if swapped_in fold then (g.view disks.0).content else (g.view disks.1).content) → Keeps (other_in fold) others
+        pub number_is : numbers_found ledger copies pair ≡ active_number fold
+        pub other_limit : limit_of (other_in fold) ≡ limit_found ledger
+        pub made_is : made_in fold ≡ body.made.spell (made_for (number_at (not (swapped_in fold)) pair) table)
+        pub epoch_is : epoch_in fold ≡ epoch_found ledger
+        pub copies_are : copies_in fold ≡ table.copies
 
       module _ (pair : ℕ) (fold : Fold D g) (journal : Journal D g) (records : List (List ℕ)) (disks : D × D) (at : IsPairAt pair fold journal records disks) where
         -- WHAT WAS TOLD
@@ -118,8 +142,8 @@ module _ {D : Type 0} {g : Ghosts D} where
           left = subst (λ d. LeftAlike (g.view d) (g.view (disk_of journal))) (sym at.active_is) (alike_itself (g.view (disk_of journal)));
         }
 
-        pub other_found_so : IsOther found_of pair fold
-        other_found_so = record {
+        pub other_found_so : (many : ℕ) → many ≡ table.copies → IsOther many found_of pair fold
+        other_found_so many same = record {
           swapped = sym at.swapped_is;
           up = at.other_up;
           disk = record {
@@ -129,6 +153,11 @@ module _ {D : Type 0} {g : Ghosts D} where
             at = ap (λ d. (g.view d).moment) at.other_is;
             left = subst (λ d. LeftAlike (g.view d) (g.view (disk_of (other_in fold)))) (sym at.other_is) (alike_itself (g.view (disk_of (other_in fold))));
           };
+          limit = at.other_limit;
+          number = sym at.number_is;
+          made = at.made_is ∙ ap (λ b. body.made.spell (made_for (number_at (not b) pair) table)) (sym at.swapped_is);
+          epoch = at.epoch_is;
+          many = at.copies_are ∙ sym same;
         }
 
         -- THE DISKS AS THEY WERE MOUNTED
@@ -155,3 +184,13 @@ module _ {D : Type 0} {g : Ghosts D} where
                 → (if b then (g.view disks.1).faults else (g.view disks.0).faults) ≤ (g.view (disk_of journal)).faults
             one_later true own spare = spare
             one_later false own spare = own
+
+        pub other_later_so : of_other table (swapped_found ledger copies) (counted_by counts) pair ≤ (g.view (other_found ledger copies pair)).faults
+        other_later_so =
+            subst (λ d. of_other table (swapped_found ledger copies) (counted_by counts) pair ≤ (g.view d).faults) (sym at.other_is)
+            (subst (λ n. n ≤ (g.view (disk_of (other_in fold))).faults) (sym (one_same at.swapped_is at.spare_counted at.own_counted)) (one_later (swapped_in fold) at.own_later at.spare_later))
+          where
+            one_later : (b : Bool) → (g.view disks.0).faults ≤ (g.view (if b then disk_of (other_in fold) else disk_of journal)).faults → (g.view disks.1).faults ≤ (g.view (if b then disk_of journal else disk_of (other_in fold))).faults
+                → (if b then (g.view disks.0).faults else (g.view disks.1).faults) ≤ (g.view (disk_of (other_in fold))).faults
+            one_later true own spare = own
+            one_later false own spare = spare

@@ -13,6 +13,7 @@ pub mod KeptPlaces
 pub mod Told
 pub mod Paid
 pub mod Leaving
+pub mod Freed
 pub mod Ran
 pub mod Grown
 pub mod KeptDisks

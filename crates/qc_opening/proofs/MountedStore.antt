@@ -1,15 +1,16 @@
 -- A store that was mounted, as the pairs of disks that were found.
 use Rattle.std.proofs.Common.{◌≡◌, ℕ, zero, suc, ◌+◌, ◌<◌, ◌≤◌, ◌^◌, List, [], ◌∷◌, ◌++◌, length, map, get_or, refl, sym, ap, ◌∙◌, subst, arith}
-use Rattle.std.specs.Prelude.{All, Bool, true, false, if◌then◌else◌, Option, None, Some, IfSome, slice_get, slice_index_or}
+use Rattle.std.specs.Prelude.{All, Bool, true, false, if◌then◌else◌, not, Option, None, Some, IfSome, slice_get, slice_index_or}
 use Rattle.std.proofs.lemmas.List.{length-map}
 use Rattle.qc_config.specs.declared.tuple.Tuple.{Tuple}
 use Rattle.qc_disk.specs.declared.disk.Disk.{Ghosts}
 use Rattle.qc_codec.specs.Base.{base_in, copy_base, tuples_of_base}
 use Rattle.qc_codec.specs.Bodies as body
 use Rattle.qc_codec.specs.Copy.{grant_form}
-use Rattle.qc_codec.specs.Ledger.{readings}
+use Rattle.qc_codec.specs.Ledger.{made_for, readings}
 use Rattle.qc_codec.specs.Restored.{restored_row}
 use Rattle.qc_codec.specs.declared.past.Past.{Past}
+use Rattle.qc_codec.proofs.Bases.{made_spelled}
 use Rattle.qc_event.specs.declared.table.Table.{Table}
 use Rattle.qc_desk.specs.Held.{from_row}
 use Rattle.qc_journal.specs.Image.{HasRecords}
@@ -21,16 +22,17 @@ use Rattle.qc_ledger.proofs.Logging.{up_by}
 use Rattle.qc_opening.specs.Disks.{told_by}
 use Rattle.qc_opening.specs.Mounted.{IsCopy}
 use Rattle.qc_opening.specs.Mountings.{AreBytes, MountedOn}
-use Rattle.qc_opening.specs.Pairs.{active_number, of_active, of_other, MountedInPairs}
+use Rattle.qc_opening.specs.Pairs.{active_number, of_active, of_other, AreNumbers, MountedInPairs}
 use Rattle.qc_opening.specs.Parts.{counted_by, IsStoreOver}
 use Rattle.qc_opening.specs.declared.parts.Parts.{Parts}
 use Rattle.qc_opening.specs.Stored.{WasMounted}
-use Rattle.qc_opening.proofs.Found.{active_found, active_found_so, active_later_so, active_told_is, active_was_so, bodies_found, found_of, other_found, other_found_so, other_was_so, swapped_found, IsPairAt}
+use Rattle.qc_opening.proofs.Found.{active_found, active_found_so, active_later_so, active_told_is, active_was_so, bodies_found, found_of, numbers_found, other_found, other_found_so, other_later_so, other_was_so, swapped_found, IsPairAt}
 use Rattle.qc_opening.proofs.Mountings.Numbered.{pairs_length}
 use Rattle.qc_opening.proofs.Mountings.Row.{own_at, spare_at}
 use Rattle.qc_opening.proofs.ReadBodies.{bodies_told}
 use Rattle.qc_opening.proofs.Places.{all_at, at_place, get_next, mapped_at, pair_at}
-use Rattle.qc_pair.specs.Fold.{other_in, swapped_in}
+use Rattle.qc_pair.specs.Fold as fold
+use Rattle.qc_pair.specs.Fold.{epoch_in, other_in, swapped_in}
 use Rattle.qc_pair.specs.Opening.{HaveActive}
 use Rattle.qc_pair.specs.Pair.{number_at}
 use Rattle.qc_pair.specs.declared.fold.Fold.{Fold}
@@ -116,6 +118,11 @@ module _ {D : Type 0} {g : Ghosts D} (table : Table) (told : List (Option (List 
         others = if swapped_in parts.ledger.fold then l.mounts.opens.have.own else l.mounts.opens.have.spare;
         others_had = one_has (g.view ledger_pair.0).content (g.view ledger_pair.1).content l.mounts.opens.have.own l.mounts.opens.have.spare (swapped_in parts.ledger.fold) l.mounts.opens.have.has_own l.mounts.opens.have.has_spare;
         keeps_other = l.mounts.opens.keeps_other;
+        number_is = refl;
+        other_limit = l.folds.limit_is ∙ sym l.limit_is;
+        made_is = l.folds.made_is ∙ made_spelled (made_for (number_at (not (swapped_in parts.ledger.fold)) 0) table);
+        epoch_is = refl;
+        copies_are = l.folds.copies_are;
       }
 
   -- THE COPIES' PAIRS
@@ -154,6 +161,11 @@ module _ {D : Type 0} {g : Ghosts D} (table : Table) (told : List (Option (List 
           others = if swapped_in pair.fold then c.mounts.opens.have.own else c.mounts.opens.have.spare;
           others_had = one_has (g.view disks.0).content (g.view disks.1).content c.mounts.opens.have.own c.mounts.opens.have.spare (swapped_in pair.fold) c.mounts.opens.have.has_own c.mounts.opens.have.has_spare;
           keeps_other = c.mounts.opens.keeps_other;
+          number_is = get_next (fold.active_number parts.ledger.fold) (map (λ p. fold.active_number p.fold) items) i 0 ∙ mapped_at (λ p. fold.active_number p.fold) items i pair 0 is;
+          other_limit = c.folds.limit_is ∙ sym store.mounted.ledger_is.limit_is;
+          made_is = c.folds.made_is;
+          epoch_is = c.folds.epoch_is ∙ sym store.mounted.ledger_is.folds.epoch_is;
+          copies_are = c.folds.copies_are;
         };
       }
 
@@ -186,32 +198,42 @@ module _ {D : Type 0} {g : Ghosts D} (table : Table) (told : List (Option (List 
   active_later = each_pair (λ pair. of_active table (swapped_found parts.ledger items) (counted_by counts) pair ≤ (g.view (active_found parts.ledger items pair)).faults)
       (λ fold journal records disks pair at. active_later_so table told parts.ledger items counts pair fold journal records disks at)
 
+  pub other_later : (pair : ℕ) → pair ≤ table.copies → of_other table (swapped_found parts.ledger items) (counted_by counts) pair ≤ (g.view (other_found parts.ledger items pair)).faults
+  other_later = each_pair (λ pair. of_other table (swapped_found parts.ledger items) (counted_by counts) pair ≤ (g.view (other_found parts.ledger items pair)).faults)
+      (λ fold journal records disks pair at. other_later_so table told parts.ledger items counts pair fold journal records disks at)
+
+  -- the epoch of the run is the mounting's
+  pub epoch_is : epoch_in parts.ledger.fold ≡ parts.epoch
+  epoch_is = store.mounted.ledger_is.folds.epoch_is
+
   -- THE SYSTEM
 
   abbrev found : Findings
   found = found_of table told parts.ledger items
 
-  pub ledger_found : IsLedger found parts.ledger
-  ledger_found = record {
+  pub ledger_found : (many : ℕ) → many ≡ table.copies → IsLedger many found parts.ledger
+  ledger_found many same = record {
     disk = active_found_so table told parts.ledger items counts 0 parts.ledger.fold (book.journal_of parts.ledger.book) (book.records_of parts.ledger.book) ledger_pair ledger_at;
     limit = refl;
-    other = other_found_so table told parts.ledger items counts 0 parts.ledger.fold (book.journal_of parts.ledger.book) (book.records_of parts.ledger.book) ledger_pair ledger_at;
+    other = other_found_so table told parts.ledger items counts 0 parts.ledger.fold (book.journal_of parts.ledger.book) (book.records_of parts.ledger.book) ledger_pair ledger_at many same;
   }
 
   module _ (base : List (List Tuple)) (rows : base ≡ map (λ p. start_of p.copy) items) where
-    as_many : length base ≡ table.copies
+    pub as_many : length base ≡ table.copies
     as_many = ap length rows ∙ (length-map items (λ (p : CopyPair D g). start_of p.copy) ∙ all)
 
     copy_found : (i : ℕ) (pair : CopyPair D g) → slice_get items i ≡ Some pair → IsMounted base found i pair
     copy_found i pair is =
         let at = copy_at i pair is in
         record {
-          number = at.is_copy.number_is;
-          many = at.is_copy.copies ∙ sym as_many;
-          starts = sym (ap (λ l. get_or l i []) rows ∙ at.start);
-          disk = active_found_so table told parts.ledger items counts (i + 1) pair.fold (copy.journal_of pair.copy) (copy.records_of pair.copy) at.disks at.at;
-          limit = at.is_copy.limit_is ∙ sym store.mounted.ledger_is.limit_is;
-          other = other_found_so table told parts.ledger items counts (i + 1) pair.fold (copy.journal_of pair.copy) (copy.records_of pair.copy) at.disks at.at;
+          active = record {
+            number = at.is_copy.number_is;
+            many = at.is_copy.copies ∙ sym as_many;
+            starts = sym (ap (λ l. get_or l i []) rows ∙ at.start);
+            disk = active_found_so table told parts.ledger items counts (i + 1) pair.fold (copy.journal_of pair.copy) (copy.records_of pair.copy) at.disks at.at;
+            limit = at.is_copy.limit_is ∙ sym store.mounted.ledger_is.limit_is;
+          };
+          other = other_found_so table told parts.ledger items counts (i + 1) pair.fold (copy.journal_of pair.copy) (copy.records_of pair.copy) at.disks at.at (length base) as_many;
         }
 
     pub copies_found : AreMounted base found 0 items
@@ -283,6 +305,14 @@ module _ {D : Type 0} {g : Ghosts D} (table : Table) (told : List (Option (List 
       unfolding actives_mounted
       store_mounted = record { swapped = swapped; mounted = actives_mounted; ledger = ledger_have; copies = copy_have }
 
+      -- with the numbers that were found
+      store_numbers : AreNumbers store_mounted (numbers_found parts.ledger items)
+      unfolding store_mounted actives_mounted ledger_mounts copy_mounts mounts_as
+      store_numbers = record {
+        ledger = store.mounted.ledger_is.mounts.opens.number_is;
+        copies = λ i there. let (pair, is, at) = some_copy i there in at.at.number_is ∙ at.is_copy.mounts.opens.number_is;
+      }
+
     -- the same, by slices of what was mounted
     pub mounted_by : (body.table 1).fits table → parts.epoch < 2 ^ 32 → (bodies : List (List ℕ)) → AreBytes bodies → bodies ≡ book.records_of parts.ledger.book
         → (slice : List (CopyPair D g)) → All (λ p. AreBytes (copy.records_of p.copy)) slice → slice ≡ items → MountedInPairs table (told_by told) records parts.epoch base
@@ -294,3 +324,10 @@ module _ {D : Type 0} {g : Ghosts D} (table : Table) (told : List (Option (List 
         → (slice : List (CopyPair D g)) (all_bytes : All (λ p. AreBytes (copy.records_of p.copy)) slice) (of_copies : slice ≡ items) → (mounted_by proper small bodies are_bytes of_ledger slice all_bytes of_copies).swapped ≡ swapped
     unfolding mounted_by store_mounted
     swapped_by proper small bodies are_bytes of_ledger slice all_bytes of_copies = refl
+
+    -- and so are the numbers
+    pub numbers_by : (proper : (body.table 1).fits table) (small : parts.epoch < 2 ^ 32) (bodies : List (List ℕ)) (are_bytes : AreBytes bodies) (of_ledger : bodies ≡ book.records_of parts.ledger.book)
+        → (slice : List (CopyPair D g)) (all_bytes : All (λ p. AreBytes (copy.records_of p.copy)) slice) (of_copies : slice ≡ items) → AreNumbers (mounted_by proper small bodies are_bytes of_ledger slice all_bytes of_copies) (numbers_found parts.ledger items)
+    unfolding mounted_by
+    numbers_by proper small bodies are_bytes of_ledger slice all_bytes of_copies =
+        store_numbers proper small (subst AreBytes of_ledger are_bytes) (subst (All (λ (p : CopyPair D g). AreBytes (copy.records_of p.copy))) of_copies all_bytes)

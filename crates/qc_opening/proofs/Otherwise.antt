@@ -7,7 +7,7 @@ use Rattle.qc_disk.specs.Shop.{Tells}
 use Rattle.qc_event.specs.declared.table.Table.{Table}
 use Rattle.qc_opening.specs.Disks.{all_places}
 use Rattle.qc_opening.specs.Mountings.{MountedOn}
-use Rattle.qc_opening.specs.Pairs.{active_number, of_active, of_other, AreOthers, MountedInPairs}
+use Rattle.qc_opening.specs.Pairs.{active_number, of_active, of_other, AreNumbers, AreOthers, MountedInPairs}
 use Rattle.qc_pair.specs.Opening.{HaveActive}
 use Rattle.qc_pair.specs.declared.kind.Kind.{Kind}
 use Rattle.qc_pair.specs.declared.kind.Kind.TheVariants as kind
@@ -96,3 +96,8 @@ module _ (table : Table) (other told : ℕ → Option (List ℕ)) (records : ℕ
   pub others_otherwise : (others : ℕ → List (List ℕ)) → AreOthers m others → AreOthers mounted_otherwise others
   unfolding mounted_otherwise have_otherwise
   others_otherwise others are = record { ledger = are.ledger; copies = are.copies }
+
+  -- and the same numbers are those of the bases
+  pub numbers_otherwise : (numbers : ℕ → ℕ) → AreNumbers m numbers → AreNumbers mounted_otherwise numbers
+  unfolding mounted_otherwise mounted_on
+  numbers_otherwise numbers are = record { ledger = are.ledger; copies = are.copies }

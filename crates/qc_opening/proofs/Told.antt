@@ -1,30 +1,32 @@
 -- What a shop offered, the disks that it gave told; and what follows of it.
 use Rattle.std.proofs.Common.{◌≡◌, ℕ, zero, suc, ◌+◌, ◌<◌, ◌≤◌, true, List, [], ◌∷◌, length, map, get_or, refl, ap, ◌∙◌, subst, arith}
-use Rattle.std.specs.Prelude.{Bool, false, if◌then◌else◌, Result, Ok, Err, IfOk, IfErr, Option, Some, is_some}
+use Rattle.std.specs.Prelude.{◌↔◌, Bool, false, if◌then◌else◌, IsOk, Result, Ok, Err, IfOk, IfErr, Option, Some, is_some, slice_get}
 use Rattle.std.specs.Result.{IsErrAnd}
 use Rattle.std.proofs.Math.Logic.{∥∥₁_elim, ∥∥₁_prop}
 use Rattle.std.proofs.lemmas.List.{length-reverse}
-use Rattle.qc_disk.specs.Disk.{DiskView}
+use Rattle.std.proofs.lemmas.Option.{slice_get_within}
+use Rattle.qc_disk.specs.Disk.{DiskView, Rose}
 use Rattle.qc_disk.specs.Shop.{Tells}
 use Rattle.qc_event.specs.declared.table.Table.{Table}
 use Rattle.qc_event.specs.History.{limit}
+use Rattle.qc_event.specs.Standing.{HasEnded}
 use Rattle.qc_event.specs.Tables.{base_of, setting_of}
 use Rattle.qc_opening.specs.Disks.{all_places, by_place, told_by, AreCounted, AreOffered}
 use Rattle.qc_opening.specs.Images.{Offers}
 use Rattle.qc_opening.specs.Numbered.{EachFrom}
-use Rattle.qc_opening.specs.Pairs.{of_active, of_other, HaveNoGrantsInPairs, MountedInPairs}
+use Rattle.qc_opening.specs.Pairs.{made_other, of_active, of_other, HaveNoGrantsInPairs, MountedInPairs}
 use Rattle.qc_opening.specs.Parts.{counted_by}
 use Rattle.qc_opening.specs.Refusing.{disks_in, reason_in, AreLeft}
-use Rattle.qc_opening.specs.Stored.{disks_of, past_of, returned, AllTell, AreImages, HasKept, HasRun, HavePaid, WasMounted}
+use Rattle.qc_opening.specs.Stored.{disks_of, past_of, returned, AllTell, AreImages, HasKept, HasRun, HavePaid, WasMounted, WereFolded}
 use Rattle.qc_opening.specs.declared.mount_no.MountNo.{MountNo}
 use Rattle.qc_opening.specs.declared.stored.Stored.{Stored}
 use Rattle.qc_opening.proofs.Epochs.{of_epoch}
-use Rattle.qc_opening.proofs.KeptDisks.KeptPairs.ImagesKept.{images_kept}
+use Rattle.qc_opening.proofs.KeptDisks.KeptPairs.ImagesKept.{images_left}
 use Rattle.qc_opening.proofs.KeptDisks.KeptPairs.NextMounting.{first_start, restores}
-use Rattle.qc_opening.proofs.KeptDisks.KeptPairs.PairsStand.{kept_left, stand}
+use Rattle.qc_opening.proofs.KeptDisks.KeptPairs.PairsStand.{stand}
 use Rattle.qc_opening.proofs.KeptOtherwise.{keep_otherwise}
 use Rattle.qc_opening.proofs.KeptPlaces.{disks_many}
-use Rattle.qc_opening.proofs.Otherwise.{active_tells, mounted_otherwise, other_tells, others_otherwise, some_too, TellAsMuch}
+use Rattle.qc_opening.proofs.Otherwise.{active_tells, mounted_otherwise, numbers_otherwise, other_tells, others_otherwise, some_too, TellAsMuch}
 use Rattle.qc_opening.proofs.Mountings.Refused.{left_length}
 use Rattle.qc_refine.specs.Pairs.{RestoreInPairs, StandInPairsWithin}
 use Rattle.qc_script.specs.Plan.{ScriptPlan}
@@ -105,30 +107,35 @@ module _ {D : Type 0} (view : D → DiskView) (plan : ScriptPlan) (most : ℕ) (
         record {
           records = k.records;
           others = k.others;
+          numbers = k.numbers;
           firsts = k.firsts;
           other_firsts = k.other_firsts;
           mounted = mounted;
           others_are = others_otherwise plan.table offers told k.records stored.epoch stored.ended.start tells k.mounted k.others k.others_are;
+          numbers_are = numbers_otherwise plan.table offers told k.records stored.epoch stored.ended.start tells k.mounted k.numbers k.numbers_are;
           was = λ pair low. was_too (k.firsts pair) (k.records pair) (of_active plan.table k.mounted.swapped offers pair) (of_active plan.table k.mounted.swapped told pair) (active_too pair low) (k.was pair low);
           other_was = λ pair low. was_too (k.other_firsts pair) (k.others pair) (of_other plan.table k.mounted.swapped offers pair) (of_other plan.table k.mounted.swapped told pair) (other_too pair low) (k.other_was pair low);
-          kept = keep_otherwise (setting_of plan.table stored.ended.start) k.mounted.swapped most k.records (λ pair. view (k.firsts pair)) (λ pair. view (k.other_firsts pair))
+          kept = keep_otherwise (setting_of plan.table stored.ended.start) k.mounted.swapped most stored.epoch k.records (λ pair. view (k.firsts pair)) (λ pair. view (k.other_firsts pair)) k.numbers (λ pair. made_other plan.table k.mounted.swapped pair)
               (λ pair. is_some (of_active plan.table k.mounted.swapped told pair)) (λ pair. is_some (of_active plan.table k.mounted.swapped offers pair))
               (λ pair. is_some (of_other plan.table k.mounted.swapped told pair)) (λ pair. is_some (of_other plan.table k.mounted.swapped offers pair)) k.others k.others
               (λ pair low. active_too pair (omega (arith, low, many))) (λ pair low. other_too pair (omega (arith, low, many))) (λ pair low some. refl)
-              view stored.ended.disks.items (past_of stored) k.kept;
+              view (past_of stored) (IsOk stored.ended.ran) stored.ended.disks.items k.kept;
         }
 
     -- STANDING
 
-    pub stands : AllTell plan.table.copies offers → (images : List (List ℕ)) → AreImages view stored.ended.disks.items images → ∥ StandInPairsWithin 1 plan.table stored.ended.start stored.epoch (past_of stored) images ∥₁
-    stands all_tell images left =
+    all_told : AllTell plan.table.copies offers → AllTell plan.table.copies told
+    all_told all_tell place low = some_too (offers place) (told place) (tells place low) (all_tell place low)
+
+    pub stands : ((disk : D) (c : List ℕ) → (view disk).left_at (view disk).moment c ↔ (view disk).may_leave c) → AllTell plan.table.copies offers → (images : List (List ℕ)) → AreImages view stored.ended.disks.items images
+        → ∥ StandInPairsWithin 1 plan.table stored.ended.start stored.epoch (past_of stored) images ∥₁
+    stands now all_tell images left =
         let k = run.kept in
         ∥∥₁_elim
-        (images_kept view plan.table told k.records stored.epoch stored.ended.start k.mounted k.others k.others_are most (λ pair. view (k.firsts pair)) (λ pair. view (k.other_firsts pair)) stored.ended.disks.items (past_of stored) k.kept
-        (λ place low. some_too (offers place) (told place) (tells place low) (all_tell place low)) images left)
+        (images_left view plan.table told k.records stored.epoch stored.ended.start k.mounted k.others k.numbers k.numbers_are most (λ pair. view (k.firsts pair)) (λ pair. view (k.other_firsts pair)) (IsOk stored.ended.ran) stored.ended.disks.items (past_of stored) k.kept
+        (all_told all_tell) images left k.others_are now)
         ∥∥₁_prop
-        (λ kept. stand plan.table told k.records stored.epoch stored.ended.start k.mounted (past_of stored) images run.legal bounded (of_epoch stored.epoch (past_of stored) bounded run.begins.numbers)
-        (kept_left plan.table told k.records stored.epoch stored.ended.start k.mounted (past_of stored) images kept))
+        (λ left. stand plan.table told k.records stored.epoch stored.ended.start k.mounted (past_of stored) images run.legal bounded (of_epoch stored.epoch (past_of stored) bounded run.begins.numbers) left)
       where
         bounded : length (past_of stored) ≤ limit
         bounded = omega (arith, run.bounded, length-reverse stored.ended.trail)
@@ -150,10 +157,31 @@ module _ {D : Type 0} (view : D → DiskView) (plan : ScriptPlan) (most : ℕ) (
         one_counted true is is_too = is_too
         one_counted false is is_too = is
 
+    -- and so are they folded, where none has failed since the shop told of them
+    pub folded : (shop : ℕ → ℕ) → ((place : ℕ) → place < all_places plan.table.copies → counts place ≡ shop place) → IsOk stored.ended.ran → HasEnded (past_of stored)
+        → WereFolded view plan.table most offers shop stored.epoch stored.ended.start (disks_of stored) (past_of stored)
+    unfolding mounted_otherwise
+    folded shop same done ended =
+        let f = run.folded done ended in
+        record {
+          records = f.records;
+          numbers = f.numbers;
+          mounted = mounted_otherwise plan.table offers told f.records stored.epoch stored.ended.start tells f.mounted;
+          numbers_are = numbers_otherwise plan.table offers told f.records stored.epoch stored.ended.start tells f.mounted f.numbers f.numbers_are;
+          folded = λ all_tell short sound room images left. f.folded (all_told all_tell) short
+              (λ place disk is rose. sound place disk is (subst (λ n. Rose n (view disk).faults) (same place (within place disk is)) rose)) room images left;
+        }
+      where
+        within : (place : ℕ) (disk : D) → slice_get (disks_of stored) place ≡ Some disk → place < all_places plan.table.copies
+        within place disk is =
+            let many = disks_many view (setting_of plan.table stored.ended.start) _ plan.table (IsOk stored.ended.ran) (disks_of stored) (past_of stored) run.kept.kept run.kept.mounted.mounted.as_many in
+            let there : place < length (disks_of stored) = slice_get_within (disks_of stored) place disk is in
+            omega (arith, many, there)
+
 -- whatever the answer, all disks are handed back
 pub all_returned : {D : Type 0} (view : D → DiskView) (plan : ScriptPlan) (most : ℕ) (told : ℕ → Option (List ℕ)) (counts : ℕ → ℕ) (disks : List D) (answer : Result (Stored D) (MountNo D)) → length disks ≡ all_places plan.table.copies → IfOk answer (HasRun view plan most told counts)
     → IfErr answer (λ refused. AreLeft view plan.table (reason_in refused) disks (disks_in refused)) → returned answer ≡ all_places plan.table.copies
-all_returned view plan most told counts disks (Ok stored) all ran left = disks_many view (setting_of plan.table stored.ended.start) _ plan.table (disks_of stored) (past_of stored) ran.kept.kept ran.kept.mounted.mounted.as_many
+all_returned view plan most told counts disks (Ok stored) all ran left = disks_many view (setting_of plan.table stored.ended.start) _ plan.table (IsOk stored.ended.ran) (disks_of stored) (past_of stored) ran.kept.kept ran.kept.mounted.mounted.as_many
 all_returned view plan most told counts disks (Err refused) all ran left = left_length view plan.table (reason_in refused) disks (disks_in refused) left ∙ all
 
 -- those of an error that was handed on are handed back

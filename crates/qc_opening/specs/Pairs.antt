@@ -21,7 +21,7 @@ use Rattle.qc_pair.specs.Pair.{number_at}
 use Rattle.qc_pair.specs.declared.kind.Kind.{Kind}
 use Rattle.qc_pair.specs.declared.kind.Kind.TheVariants as kind
 use Rattle.qc_refine.specs.Folded.{seen_row}
-use Rattle.qc_refine.specs.Pairs.{image_of, spare_image}
+use Rattle.qc_refine.specs.Pairs.{image_of, spare_image, IsFoldedCopy, IsFoldedLedger, TellsCopy, TellsLedger}
 use Rattle.qc_site.specs.Image as grants
 
 -- ONE OF EACH PAIR
@@ -59,14 +59,14 @@ pub record AreOthers {table : Table} {told : ℕ → Option (List ℕ)} {records
   pub copies : (copy : ℕ) (there : copy < table.copies)
       → others (copy + 1) ≡ (if m.swapped (copy + 1) then (m.copies copy there).own else (m.copies copy there).spare)
 
--- Of each disk of these pairs one image: that of an active one tells what it keeps of a history behind the records, that of
--- another has the records that it had.
-pub record AreKeptInPairs {table : Table} {told : ℕ → Option (List ℕ)} {records : ℕ → List (List ℕ)} {epoch : ℕ} {base : List (List Tuple)} (m : MountedInPairs table told records epoch base) (past : Past) (images : List (List ℕ)) : Type 0 where
-  pub as_many : length images ≡ table.copies + 1 + (table.copies + 1)
-  pub active : AreKept table base records past (active_images table m.swapped images)
-  pub ledger : HasRecords (if m.swapped 0 then m.ledger.own else m.ledger.spare) (of_other table m.swapped (image_of table images) 0)
-  pub copies : (copy : ℕ) (there : copy < table.copies)
-      → HasRecords (if m.swapped (copy + 1) then (m.copies copy there).own else (m.copies copy there).spare) (of_other table m.swapped (image_of table images) (copy + 1))
+-- These are the numbers of the bases of each pair's active disk, 0 where it has none.
+pub record AreNumbers {table : Table} {told : ℕ → Option (List ℕ)} {records : ℕ → List (List ℕ)} {epoch : ℕ} {base : List (List Tuple)} (m : MountedInPairs table told records epoch base) (numbers : ℕ → ℕ) : Type 0 where
+  pub ledger : numbers 0 ≡ number_in kind.Ledger m.mounted.ledger.found
+  pub copies : (copy : ℕ) (there : copy < table.copies) → numbers (copy + 1) ≡ number_in kind.Copy (m.mounted.copies copy there).found
+
+-- by which spares are active, how the other disk of a pair is made
+abbrev pub made_other : Table → (ℕ → Bool) → ℕ → List ℕ
+made_other table swapped pair = body.made.spell (made_for (number_at (not (swapped pair)) pair) table)
 
 -- The copies' disks told images on which no grant stands, and so did their spares: they were empty, or of a store that was just
 -- made.
@@ -94,7 +94,7 @@ module _ {table : Table} {told : ℕ → Option (List ℕ)} {records : ℕ → L
   other_image pair = of_other table m.swapped (image_of table images) pair
 
   abbrev pub other_made : ℕ → List ℕ
-  other_made pair = body.made.spell (made_for (number_at (not (m.swapped pair)) pair) table)
+  other_made pair = made_other table m.swapped pair
 
   -- the ledger's pair was folded, which keeps nothing but the epoch
   abbrev pub IsLedgerFolded : Type 0
@@ -115,6 +115,12 @@ module _ {table : Table} {told : ℕ → Option (List ℕ)} {records : ℕ → L
     pub copies : (copy : ℕ) (there : copy < table.copies)
         → IsUnfolded (if m.swapped (copy + 1) then (m.copies copy there).own else (m.copies copy there).spare) (other_made (copy + 1)) (other_image (copy + 1))
         ⊎ (HasEnded past × IsCopyFolded copy there)
+
+-- Of pairs of images each was folded, once a run over these tuples had ended with a history: the ledger's tells the epoch alone, and a
+-- copy's what the copy holds, too.
+abbrev pub AreFoldedInPairs : Table → List (List Tuple) → ℕ → Past → List (List ℕ) → Type 0
+AreFoldedInPairs table base epoch past images = TellsLedger table images (IsFoldedLedger table epoch)
+    × ((copy : ℕ) → copy < table.copies → TellsCopy table images copy (IsFoldedCopy table epoch (seen_row (setting_of table base) past copy)))
 
 -- MOUNTINGS THAT WERE CUT OFF
 

@@ -1,7 +1,7 @@
 -- What a session left of a store, and what its disks have to do with its history.
-use Rattle.std.specs.Prelude.{ℕ, zero, suc, true, ◌≡◌, ◌+◌, ◌<◌, ◌≤◌, ◌^◌, Bool, List, [], length, reverse, Option, Some, IsSome, is_some, OnOk, IsErrOf, Result, Ok, Err, slice_get}
+use Rattle.std.specs.Prelude.{ℕ, zero, suc, true, ◌≡◌, ◌+◌, ◌<◌, ◌≤◌, ◌⊎◌, ◌^◌, Bool, List, [], length, reverse, Option, Some, IsSome, is_some, OnOk, IsOk, IsErrOf, Result, Ok, Err, slice_get}
 use Rattle.qc_config.specs.declared.tuple.Tuple.{Tuple}
-use Rattle.qc_disk.specs.Disk.{DiskView}
+use Rattle.qc_disk.specs.Disk.{DiskView, Rose}
 use Rattle.qc_event.specs.declared.short.Short.TheVariants.{Room}
 use Rattle.qc_event.specs.declared.table.Table.{Table}
 use Rattle.qc_event.specs.Base.{Setting}
@@ -9,20 +9,23 @@ use Rattle.qc_event.specs.History.{Past, limit}
 use Rattle.qc_event.specs.Legal.{Legal}
 use Rattle.qc_event.specs.Listed.{listed}
 use Rattle.qc_event.specs.Seats.{copy_seat, ledger_seat}
+use Rattle.qc_event.specs.Standing.{HasEnded}
 use Rattle.qc_event.specs.Tables.{setting_of}
 use Rattle.qc_interp.specs.FollowsScript.{BeginsScript, FollowsScript}
 use Rattle.qc_journal.specs.Image.{HasRecords}
 use Rattle.qc_ledger.specs.Since.{AreTopsBy}
 use Rattle.qc_opening.specs.Disks.{all_places}
 use Rattle.qc_opening.specs.Numbered.{PairsFrom}
-use Rattle.qc_opening.specs.Pairs.{of_active, of_other, AreOthers, MountedInPairs}
+use Rattle.qc_opening.specs.Pairs.{made_other, of_active, of_other, AreFoldedInPairs, AreNumbers, AreOthers, MountedInPairs}
 use Rattle.qc_opening.specs.Refusing.{disks_in}
 use Rattle.qc_opening.specs.declared.mount_no.MountNo.{MountNo}
 use Rattle.qc_desk.specs.Entries.{entries_of}
 use Rattle.qc_script.specs.Plan.{ScriptPlan}
 use Rattle.qc_site.specs.Since.{AreGrantsBy}
+use Rattle.qc_pair.specs.Folding.{HasNoRoom, next_base}
 use Rattle.qc_system.specs.Closing.{AllKeep}
-use Rattle.qc_system.specs.Grown.{GrownFrom}
+use Rattle.qc_system.specs.Folds.{held_at}
+use Rattle.qc_system.specs.Grown.{FoldedFrom, GrownFrom}
 use Rattle.qc_system.specs.Kept.{CopyHadNoRoom, HadNoRoom, NoneStrange, Pays, downs}
 use Rattle.qc_opening.specs.declared.stored.Stored.{Stored}
 
@@ -47,6 +50,10 @@ AllTell copies told = (place : ℕ) → place < all_places copies → IsSome (to
 abbrev pub AreOfRun : Setting → ℕ → Past → List (List ℕ) → Type 0
 AreOfRun setting zero past = AreTopsBy (listed past) past
 AreOfRun setting (suc copy) past = AreGrantsBy setting copy past
+
+-- the body of the base to which a pair is folded behind one of these numbers, at the end of a history over these tuples
+abbrev pub base_of_fold : Table → (ℕ → ℕ) → ℕ → List (List Tuple) → ℕ → Past → List ℕ
+base_of_fold table numbers epoch start pair past = next_base table.copies (numbers pair) epoch (held_at (setting_of table start) pair past)
 
 -- by which spares are active, the place of a pair's active disk, and of the other one
 abbrev pub active_place : Table → (ℕ → Bool) → ℕ → ℕ
@@ -87,44 +94,82 @@ module _ {D : Type 0} (view : D → DiskView) where
     pub tells : is_some told ≡ true → IsSome (view disk).content
     pub had : is_some told ≡ true → (image : List ℕ) → (view disk).may_leave image → HasRecords records image
 
-  -- A disk has grown since its mounting: the disk as it was then told its bytes, and a crash left these records of it and no others; at each moment before its own a crash left of the disk what it left of that one; at each since, these and behind them some of which this is so; and no record was lost again.
+  -- A disk has grown since its mounting: the disk as it was then told its bytes, and a crash left these records of it
+  -- and no others; at each moment before its own a crash left of the disk what it left of that one; at each since,
+  -- these and behind them some of which this is so; and no record was lost again.
   pub record HasGrown (before : List (List ℕ)) (May : List (List ℕ) → Type 0) (disk : D) : Type 0 where
     pub first : D
     pub tells : IsSome (view first).content
     pub had : (image : List ℕ) → (view first).may_leave image → HasRecords before image
     pub grown : GrownFrom (view first) before May (view disk)
 
-  -- A store was mounted over disks that told this, for an epoch, and its copies started so. Each active disk that told its bytes has grown since by records of the run, and each other one by none.
+  -- A disk was folded into since its mounting: the disk as it was then told its bytes, and a crash left these records
+  -- of it and no others; at each moment before its own a crash left of the disk what it left of that one; at each
+  -- since, these records, or none, or the first of two bodies, or both.
+  pub record WasFoldedInto (before : List (List ℕ)) (made base : List ℕ) (disk : D) : Type 0 where
+    pub first : D
+    pub tells : IsSome (view first).content
+    pub had : (image : List ℕ) → (view first).may_leave image → HasRecords before image
+    pub folds : FoldedFrom (view first) before made base (view disk)
+
+  -- A store was mounted over disks that told this, for an epoch, and its copies started so. Each active disk that told
+  -- its bytes has grown since by records of the run. Each other one has by none; or it was folded into, once each top
+  -- had its end, from the next number on: how it is made, and a base of the epoch with what the copy holds.
   pub record HaveGrown (table : Table) (told : ℕ → Option (List ℕ)) (epoch : ℕ) (start : List (List Tuple)) (disks : List D) (past : Past) : Type 0 where
     pub records : ℕ → List (List ℕ)
     pub others : ℕ → List (List ℕ)
+    pub numbers : ℕ → ℕ
     pub mounted : MountedInPairs table told records epoch start
     pub others_are : AreOthers mounted others
+    pub numbers_are : AreNumbers mounted numbers
     pub grown : (pair : ℕ) (disk : D) → pair ≤ table.copies → slice_get disks (active_place table mounted.swapped pair) ≡ Some disk
         → is_some (of_active table mounted.swapped told pair) ≡ true → ∥ HasGrown (records pair) (AreOfRun (setting_of table start) pair past) disk ∥₁
     pub kept : (pair : ℕ) (disk : D) → pair ≤ table.copies → slice_get disks (other_place table mounted.swapped pair) ≡ Some disk
         → is_some (of_other table mounted.swapped told pair) ≡ true → ∥ HasGrown (others pair) (λ more. more ≡ []) disk ∥₁
+        ⊎ (HasEnded past × (numbers pair < 2 ^ 63)
+        × ∥ WasFoldedInto (others pair) (made_other table mounted.swapped pair) (base_of_fold table numbers epoch start pair past) disk ∥₁)
 
-  -- A store was mounted over disks that told this, with journals up to a limit, and its copies started so; then the disks were the firsts, of each pair the active one and the other one. Each active disk that is
-  -- left keeps, where it told its bytes, the records of the mounting, and then what the history tells; and so it did at each
-  -- moment since it was the first. Each other one keeps what was found on it.
+  -- A store was mounted over disks that told this and had counted so many faults, for an epoch, with journals up to a
+  -- limit, and its copies started so. Where each disk told its bytes and has not failed since, the history is not full,
+  -- no pair has the last number, and each base and what stands before it fit the limit, each pair was folded.
+  pub record WereFolded (table : Table) (most : ℕ) (told : ℕ → Option (List ℕ)) (counts : ℕ → ℕ) (epoch : ℕ) (start : List (List Tuple)) (disks : List D) (past : Past) : Type 0 where
+    pub records : ℕ → List (List ℕ)
+    pub numbers : ℕ → ℕ
+    pub mounted : MountedInPairs table told records epoch start
+    pub numbers_are : AreNumbers mounted numbers
+    pub folded : AllTell table.copies told → length past < limit
+        → ((place : ℕ) (disk : D) → slice_get disks place ≡ Some disk → Rose (counts place) (view disk).faults → ⊥)
+        → ((pair : ℕ) → pair ≤ table.copies → (at : ℕ) → HasNoRoom (numbers pair) most (made_other table mounted.swapped pair) (base_of_fold table numbers epoch start pair past) at → ⊥)
+        → (images : List (List ℕ)) → AreImages disks images → ∥ AreFoldedInPairs table start epoch past images ∥₁
+
+  -- A store was mounted over disks that told this, with journals up to a limit, and its copies started so; then the
+  -- disks were the firsts, of each pair the active one and the other one. Each active disk that is left keeps, where it
+  -- told its bytes, the records of the mounting, and then what the history tells; and so it did at each moment since it
+  -- was the first. Each other one keeps what was found on it, or was folded into. Where the session came to its end,
+  -- each pair was folded that nothing barred.
   pub record HasKept (table : Table) (most : ℕ) (told : ℕ → Option (List ℕ)) (stored : Stored D) : Type 0 where
     pub records : ℕ → List (List ℕ)
     pub others : ℕ → List (List ℕ)
+    pub numbers : ℕ → ℕ
     pub firsts : ℕ → D
     pub other_firsts : ℕ → D
     pub mounted : MountedInPairs table told records stored.epoch stored.ended.start
     pub others_are : AreOthers mounted others
+    pub numbers_are : AreNumbers mounted numbers
     pub was : (pair : ℕ) → pair ≤ table.copies → WasMounted (firsts pair) (records pair) (of_active table mounted.swapped told pair)
     pub other_was : (pair : ℕ) → pair ≤ table.copies → WasMounted (other_firsts pair) (others pair) (of_other table mounted.swapped told pair)
     pub kept : AllKeep (setting_of table stored.ended.start) (record {
       swapped = mounted.swapped;
       active = λ pair. record { told = is_some (of_active table mounted.swapped told pair); before = records pair; first = view (firsts pair) };
       other = λ pair. record { told = is_some (of_other table mounted.swapped told pair); before = others pair; first = view (other_firsts pair) };
+      number = numbers;
+      made = λ pair. made_other table mounted.swapped pair;
       limit = most;
-    }) view stored.ended.disks.items (reverse stored.ended.trail)
+      epoch = stored.epoch;
+    }) view (IsOk stored.ended.ran) stored.ended.disks.items (reverse stored.ended.trail)
 
-  -- A session ran over a store that was mounted over disks that told this and had counted so many faults, with journals up to a limit: all that is known of what it left.
+  -- A session ran over a store that was mounted over disks that told this and had counted so many faults, with journals
+  -- up to a limit: all that is known of what it left.
   pub record HasRun (plan : ScriptPlan) (most : ℕ) (told : ℕ → Option (List ℕ)) (counts : ℕ → ℕ) (stored : Stored D) : Type 0 where
     pub legal : Legal (setting_of plan.table stored.ended.start) (past_of stored)
     pub bounded : length stored.ended.trail ≤ limit
@@ -134,3 +179,4 @@ module _ {D : Type 0} (view : D → DiskView) where
     pub room : IsErrOf stored.ended.ran Room → length stored.ended.trail ≡ limit
     pub kept : HasKept plan.table most told stored
     pub paid : HavePaid plan.table told counts stored.epoch stored.ended.start (disks_of stored) (past_of stored)
+    pub folded : IsOk stored.ended.ran → HasEnded (past_of stored) → WereFolded plan.table most told counts stored.epoch stored.ended.start (disks_of stored) (past_of stored)

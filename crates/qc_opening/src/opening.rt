@@ -1,17 +1,18 @@
 //! From a shop to what the sessions left.
-ghost use Rattle.std.specs.Prelude.{◌++◌, ℕ, ◌≡◌, ◌≢◌, ◌<◌, ◌≤◌, ◌^◌, ◌⊎◌, All, List, length, IfOk, IfErr, OnOk, IsErrOf};
+ghost use Rattle.std.specs.Prelude.{◌++◌, ℕ, ◌≡◌, ◌≢◌, ◌<◌, ◌≤◌, ◌^◌, ◌⊎◌, All, List, length, IfOk, IfErr, OnOk, IsOk, IsErrOf};
 ghost use Rattle.qc_codec.specs.Bodies as body;
 ghost use Rattle.qc_disk.specs.Shop.{TellsAlike, disks_of_place};
 ghost use Rattle.qc_event.specs.declared.short.Short.TheVariants.{Room};
 ghost use Rattle.qc_event.specs.History.{limit as most_entries};
 ghost use Rattle.qc_event.specs.Legal.{Legal};
+ghost use Rattle.qc_event.specs.Standing.{HasEnded};
 ghost use Rattle.qc_event.specs.Tables.{base_of, setting_of};
 ghost use Rattle.qc_interp.specs.FollowsScript.{FollowsScript, BeginsScript};
 ghost use Rattle.qc_opening.specs.Disks.{by_place, first_numbers};
 ghost use Rattle.qc_opening.specs.Images.{AreSound, Offers};
 ghost use Rattle.qc_opening.specs.Obtained.{IsNotGiven};
 ghost use Rattle.qc_opening.specs.Refusing.{ComeBack, IsFaultOf, IsNotMounted};
-ghost use Rattle.qc_opening.specs.Stored.{disks_of, past_of, returned, AllTell, AreImages, HasKept, HaveGrown, HavePaid, UnablesHadCause};
+ghost use Rattle.qc_opening.specs.Stored.{disks_of, past_of, returned, AllTell, AreImages, HasKept, HaveGrown, HavePaid, UnablesHadCause, WereFolded};
 ghost use Rattle.qc_refine.specs.Pairs.{RestoreInPairs, StandInPairsWithin};
 ghost use Rattle.qc_script.specs.Reading.{IsProper};
 ghost use Rattle.qc_script.specs.Steps.{plan_of_script};
@@ -70,13 +71,13 @@ where
         → IfOk result (λ stored. stored.ended.start ≡ base_of script.now.table) }
 
     // Of each pair the active disk keeps what was found on it, and then what the history tells, where the shop told its
-    // bytes; the other one keeps what was found on it. Where it told those of all, whatever a crash leaves of them stands
-    // beside the history. At each moment since an active disk was mounted a crash left the records of then, and behind them
-    // those of the run up to some time; and no record was lost again. Before, it left what it left of the disk as it was
-    // then. For each failure of a disk that the history tells, the active disk of the pair has counted a fault since the
-    // shop gave it. Where such a disk told its bytes, each top that the ledger had no room for, and each grant that a copy
-    // had none for, would with its record have passed the limit behind what the disk had then; and such a copy is never
-    // strange.
+    // bytes; the other one keeps what was found on it, or was folded into. Where it told those of all, whatever a crash
+    // leaves of them stands beside the history. At each moment since an active disk was mounted a crash left the records of
+    // then, and behind them those of the run up to some time; and no record was lost again. Before, it left what it left of
+    // the disk as it was then. For each failure of a disk that the history tells, the active disk of the pair has counted a
+    // fault since the shop gave it. Where such a disk told its bytes, each top that the ledger had no room for, and each
+    // grant that a copy had none for, would with its record have passed the limit behind what the disk had then; and such a
+    // copy is never strange.
     ensures kept { IfOk result (HasKept H.D.view script.now.table limit
         (by_place script.now.table.copies ((H.view shop.old).offers place.now))) }
     ensures stands { AllTell script.now.table.copies
@@ -95,6 +96,13 @@ where
     ensures unable { IfOk result (λ stored. UnablesHadCause script.now.table limit
         (by_place script.now.table.copies ((H.view shop.old).offers place.now)) stored.epoch
         stored.ended.start (past_of stored)) }
+
+    // Where the sessions came to their end and each top has its own, each pair was folded that nothing barred from that.
+    ensures folded { IfOk result (λ stored. IsOk stored.ended.ran → HasEnded (past_of stored)
+        → WereFolded H.D.view script.now.table limit
+        (by_place script.now.table.copies ((H.view shop.old).offers place.now))
+        (by_place script.now.table.copies ((H.view shop.old).counts place.now)) stored.epoch
+        stored.ended.start (disks_of stored) (past_of stored)) }
 
     // Where the shop tells the bytes of all disks, none of them has a fault, or the answer is the first.
     ensures sound { (images : List (List ℕ))

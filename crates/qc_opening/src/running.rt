@@ -1,5 +1,5 @@
 //! A session over a store whose disks were obtained.
-ghost use Rattle.std.specs.Prelude.{ℕ, ◌≡◌, ◌<◌, ◌≤◌, ◌+◌, ◌^◌, ◌↔◌, List, [], length, vec_capacity, map, reverse, IfOk, IfErr, OnOk, IsErrOf};
+ghost use Rattle.std.specs.Prelude.{ℕ, ◌≡◌, ◌<◌, ◌≤◌, ◌+◌, ◌^◌, ◌↔◌, List, [], length, vec_capacity, map, reverse, IfOk, IfErr, OnOk, IsOk, IsErrOf};
 ghost use Rattle.qc_codec.specs.Bodies as body;
 ghost use Rattle.qc_event.specs.declared.short.Short.TheVariants.{Room};
 ghost use Rattle.qc_event.specs.Base.{IsProper as IsProperSetting};
@@ -54,7 +54,7 @@ fn run_named<
     requires whole { length N.base ≡ script.now.table.copies }
     requires none { (pairs_in parts.returns ≡ []) × (parts.folds.items ≡ []) }
     requires room { length N.base + 1 ≤ vec_capacity parts.folds }
-    requires ledger { IsLedger N.found parts.ledger }
+    requires ledger { IsLedger (length N.base) N.found parts.ledger }
     requires many { length parts.copies.items ≡ length N.base }
     requires copies { AreMounted N.base N.found 0 parts.copies.items }
     ensures start { result.start ≡ N.base }
@@ -65,8 +65,8 @@ fn run_named<
     ensures begins { BeginsScript parts.blank.epoch script.now.patience
         (plan_of_script script.now).sessions (reverse result.trail) }
     ensures room { IsErrOf result.ran Room → length result.trail ≡ most }
-    ensures disks { AllKeep (setting_of N.table N.base) N.found D.view result.disks.items
-        (reverse result.trail) }
+    ensures disks { AllKeep (setting_of N.table N.base) N.found D.view (IsOk result.ran)
+        result.disks.items (reverse result.trail) }
 {
     let (system, others, first) = System::<D, N>::open(rt, parts);
     run_sessions(rt, alloc, system, others, first, script, gate, mode)

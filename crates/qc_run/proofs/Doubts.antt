@@ -1,20 +1,21 @@
 -- What a test for tops in doubt says of a history, and what follows where there is none.
 use Rattle.std.proofs.Common.{◌≡◌, Bool, true, false, List, [], ◌∷◌, reverse, Option, None, Some, refl, sym, ap, ◌∙◌, subst, inl, inr}
-use Rattle.std.specs.Prelude.{◌⊎◌, ◌&&◌, ◌||◌, is_some, if◌then◌else◌, IsTrue}
+use Rattle.std.specs.Prelude.{◌⊎◌, ◌&&◌, ◌||◌, is_some, if◌then◌else◌, IsTrue, option_to_list}
 use Rattle.std.specs.List.{list_all, list_any}
 use Rattle.std.proofs.lemmas.Bool.{and_parts, and_from, or_cases, or_left, or_right, true≢false}
 use Rattle.std.proofs.lemmas.List.{reverse-append, reverse-reverse}
-use Rattle.std.proofs.lemmas.List.Folds.{list_any-append}
+use Rattle.std.proofs.lemmas.List.Folds.{list_all-append, list_any-append}
 use Rattle.qc_event.proofs.Absent.{same_itself}
-use Rattle.qc_event.proofs.OneEntry.{here_some, ready_step, stays_some}
+use Rattle.qc_event.proofs.OneEntry.{here_some, ready_step, start_step, stays_some}
 use Rattle.qc_event.specs.Dead.{outcome_of}
-use Rattle.qc_event.specs.History.{Past, Name, earliest, end, is_ready, ready_in}
+use Rattle.qc_event.specs.History.{Past, Name, earliest, end, is_ready, ready_in, start}
+use Rattle.qc_event.specs.Standing.{HasEnded}
 use Rattle.qc_event.specs.declared.event.Entry.{Entry}
 use Rattle.qc_event.specs.declared.event.Event.{Event}
 use Rattle.qc_event.specs.declared.event.Event.TheVariants as event
 use Rattle.qc_event.specs.declared.event.How.{How}
 use Rattle.qc_event.specs.declared.event.How.TheVariants.{Commit, Abort}
-use Rattle.qc_interp.specs.FollowsScript.{started}
+use Rattle.qc_interp.specs.FollowsScript.{started, started_in}
 use Rattle.qc_interp.specs.Sessions.{is_settled}
 use Rattle.qc_script.specs.Calls.{is_over}
 use Rattle.qc_report.specs.Report.{has_doubt, in_doubt, is_live}
@@ -35,6 +36,20 @@ each_ended past (n ∷ names) none settled =
 
 pub all_ended : (past : Past) → IsTrue (list_all (is_settled past) (started past)) → ((top : Name) → IsInDoubt past top → ⊥) → AllEnded past
 all_ended past settled none = each_ended past (started past) none settled
+
+-- what is so of each name that was started is so of one
+all_of : (p : Name → Bool) (past : Past) (n : Name) → is_some (start past n) ≡ true → list_all p (started past) ≡ true → p n ≡ true
+all_of p [] n began all = absurd cc
+all_of p (e ∷ past) n began all =
+    let both = and_parts (list_all p (started past)) (list_all p (option_to_list (started_in e.event))) (sym (list_all-append p (started past) (option_to_list (started_in e.event))) ∙ all) in
+    elim (start_step e past n began) [
+      | inl old ↦ all_of p past n old both.0
+      | inr new ↦ (and_parts (p n) true (subst (λ (ev : Event). list_all p (option_to_list (started_in ev)) ≡ true) new.1.1 both.1)).0
+    ]
+
+-- so each top has its end
+pub tops_ended : (past : Past) → AllEnded past → HasEnded past
+tops_ended past all number began = all_of (λ n. is_some (end past n)) past (number ∷ []) began all
 
 -- WHAT THE TEST SAYS
 

@@ -6,6 +6,7 @@ use Rattle.qc_disk.specs.Disk.{DiskView}
 use Rattle.qc_disk.specs.Shop.{TellsAlike, disks_of_place, ShopView as Shop}
 use Rattle.qc_event.specs.History.{Name, limit}
 use Rattle.qc_event.specs.Legal.{Legal}
+use Rattle.qc_event.specs.Standing.{HasEnded}
 use Rattle.qc_event.specs.Tables.{base_of, setting_of}
 use Rattle.qc_event.specs.declared.event.Entry.{Entry}
 use Rattle.qc_event.specs.declared.short.Short.{Short}
@@ -18,7 +19,7 @@ use Rattle.qc_opening.specs.Pairs.{HaveNoGrantsInPairs}
 use Rattle.qc_opening.specs.Refusing.{disks_in, ComeBack}
 use Rattle.qc_opening.specs.declared.mount_no.MountNo.{MountNo}
 use Rattle.qc_opening.specs.declared.mount_no.MountNo.TheVariants as no
-use Rattle.qc_opening.specs.Stored.{AllTell, AreImages, HaveGrown, HavePaid, UnablesHadCause}
+use Rattle.qc_opening.specs.Stored.{AllTell, AreImages, HaveGrown, HavePaid, UnablesHadCause, WereFolded}
 use Rattle.qc_refine.specs.Pairs.{RestoreInPairs, StandInPairsWithin}
 use Rattle.qc_report.specs.Report.{Text}
 use Rattle.qc_script.specs.Plan.{ScriptPlan}
@@ -106,6 +107,8 @@ module _ {D : Type 0} (view : D → DiskView) (s : ScriptPlan) (shop : Shop) (pl
     pub grown : HaveGrown view s.table (by_place s.table.copies (shop.offers place)) epoch ran.start ran.disks.items (reverse ran.trail)
     pub paid : HavePaid view s.table (by_place s.table.copies (shop.offers place)) (by_place s.table.copies (shop.counts place)) epoch ran.start ran.disks.items (reverse ran.trail)
     pub unable : UnablesHadCause s.table journal_limit (by_place s.table.copies (shop.offers place)) epoch ran.start (reverse ran.trail)
+    pub folded : RanToEnd ran.status → HasEnded (reverse ran.trail)
+        → WereFolded view s.table journal_limit (by_place s.table.copies (shop.offers place)) (by_place s.table.copies (shop.counts place)) epoch ran.start ran.disks.items (reverse ran.trail)
 
   -- why no store was mounted, where the shop's count of faults is this now
   abbrev pub IsUnmounted : ℕ → List D → Status → Type 0

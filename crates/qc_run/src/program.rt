@@ -9,7 +9,7 @@ ghost use Rattle.qc_io.specs.Io.{Rose, Keeps, Appends, AppendsFront, Drops, Lose
 ghost use Rattle.qc_opening.specs.Disks.{by_place, first_numbers};
 ghost use Rattle.qc_opening.specs.Images.{AreSound, IsFirstFault, Offers};
 ghost use Rattle.qc_opening.specs.Pairs.{HaveNoGrantsInPairs};
-ghost use Rattle.qc_opening.specs.Stored.{AllTell, AreImages, HaveGrown, HavePaid, UnablesHadCause};
+ghost use Rattle.qc_opening.specs.Stored.{AllTell, AreImages, HaveGrown, HavePaid, UnablesHadCause, WereFolded};
 ghost use Rattle.qc_refine.specs.Pairs.{RestoreInPairs, StandInPairsWithin};
 ghost use Rattle.qc_script.specs.Plan.{ScriptPlan};
 ghost use Rattle.qc_script.specs.Reading.{IsScript};
@@ -178,7 +178,9 @@ where
     // At each moment since the active disk of a pair was mounted, where it told its bytes, a crash left the records that it
     // had then, and behind them those of the history up to some time, with at most one more, which could come next then. Of
     // two such moments each image of the later had every record that all images of the earlier had. Before, a crash left of
-    // the disk what it left of it as it was when it had been mounted. The other disk of a pair kept what it had.
+    // the disk what it left of it as it was when it had been mounted. The other disk of a pair kept what it had; or, where
+    // each top has its end, at each moment it had that, or none, or how it is made, or that and a base with the next number,
+    // the epoch, and what the copy holds in the end.
     ensures images_grow { terms.OfRun (map string_bytes words.now) (S.view source.old).left
         (S.view source.new).left result
         (λ s. (epoch : ℕ)
@@ -186,6 +188,21 @@ where
         × line.AtPlace (map string_bytes words.now)
         (λ place. HaveGrown H.D.view s.table
         (by_place s.table.copies ((H.view shop.old).offers place)) epoch
+        result.start result.disks.items (reverse result.trail))) }
+
+    // A run that ended with no top in doubt has folded each pair: so where each disk told its bytes and has not failed since
+    // the shop gave it, the history is not full, no pair had the last number, and each base fits the longest journal. Then
+    // whatever a crash leaves of a pair has, on the disk that is active now, how it is made, the epoch, and what the copy holds
+    // of each record, and no more; the ledger's has no record.
+    ensures pairs_folded { result.status ≡ Status.Done
+        → terms.OfRun (map string_bytes words.now) (S.view source.old).left
+        (S.view source.new).left result
+        (λ s. (epoch : ℕ)
+        × terms.BeginsIn epoch s result.trail
+        × line.AtPlace (map string_bytes words.now)
+        (λ place. WereFolded H.D.view s.table terms.journal_limit
+        (by_place s.table.copies ((H.view shop.old).offers place))
+        (by_place s.table.copies ((H.view shop.old).counts place)) epoch
         result.start result.disks.items (reverse result.trail))) }
 
     // Each failure that someone was unable for, the active disk of a pair has counted since the shop gave it.

@@ -1,5 +1,5 @@
 //! The sessions of a script, run over a system from its opening to its end.
-ghost use Rattle.std.specs.Prelude.{◌≡◌, ◌≤◌, [], length, reverse, OnOk, IsErrOf, Err};
+ghost use Rattle.std.specs.Prelude.{◌≡◌, ◌≤◌, [], false, length, reverse, OnOk, IsOk, IsErrOf, Err};
 ghost use Rattle.qc_event.specs.declared.short.Short.TheVariants.{Memory, Room};
 ghost use Rattle.qc_event.specs.History.{limit};
 ghost use Rattle.qc_event.specs.Legal.{Legal};
@@ -39,6 +39,18 @@ pub struct Ended<D> {
     pub disks: Vec<D>,
 }
 
+// What is told of sessions that ran: where memory was wanting for a fold, this.
+fn told_of(ran: Result<(), Short>, wanting: bool) -> Result<(), Short>
+    ensures same { wanting ≡ false → result ≡ ran }
+    ensures ok { IsOk result → wanting ≡ false }
+    ensures room { IsErrOf result Room → IsErrOf ran Room }
+{
+    match ran {
+        Ok(()) if wanting => Err(Short::Memory),
+        ran => ran,
+    }
+}
+
 // Takes apart a system over which no session began, for want of memory.
 fn none_ran<R: Wait, D: Disk + Drop, N: Mounting>(
     rt: &R,
@@ -51,9 +63,10 @@ fn none_ran<R: Wait, D: Disk + Drop, N: Mounting>(
     ensures ran { result.ran ≡ Err Memory }
     ensures start { result.start ≡ N.base }
     ensures nothing { result.trail ≡ [] }
-    ensures disks { AllKeep (setting_of N.table N.base) N.found D.view result.disks.items [] }
+    ensures disks { AllKeep (setting_of N.table N.base) N.found D.view (IsOk result.ran)
+        result.disks.items [] }
 {
-    let (start, trail, disks) = system.finish(rt, first, others);
+    let (start, trail, disks, _) = system.finish(rt, first, others);
     Ended {
         ran: Err(Short::Memory),
         start,
@@ -64,7 +77,8 @@ fn none_ran<R: Wait, D: Disk + Drop, N: Mounting>(
 
 /// Runs the sessions of a script over a system that was just opened, in threads or in order, and takes that apart, with what
 /// stands beside it. Each passes the gate before its first top. Where memory or room is wanting, a session stops, and what
-/// it made before stands; the others go on. Where memory is wanting for the board, none begins.
+/// it made before stands; the others go on. Where memory is wanting for the board, none begins; where it is for a fold of
+/// disks at the end, none came to its end by what is told.
 pub fn run_sessions<
     R: Threads + Wait + Sync,
     D: Disk + Drop + Send,
@@ -96,9 +110,10 @@ pub fn run_sessions<
         (plan_of_script script.now).sessions (reverse result.trail) }
     ensures room { IsErrOf result.ran Room → length result.trail ≡ limit }
 
-    // Each disk keeps what was found on it, and then what the history tells.
-    ensures disks { AllKeep (setting_of N.table N.base) N.found D.view result.disks.items
-        (reverse result.trail) }
+    // Each active disk keeps what was found on it, and then what the history tells. Where all came to their end, each pair
+    // was folded that nothing barred.
+    ensures disks { AllKeep (setting_of N.table N.base) N.found D.view (IsOk result.ran)
+        result.disks.items (reverse result.trail) }
 {
     let (board, seat) = match Board::new(alloc, SESSIONS, EACH) {
         Ok(made) => made,
@@ -107,9 +122,9 @@ pub fn run_sessions<
     let (ran, first) = run_over::<R, D, N, G, Brand>(
         rt, alloc, &system, &board, script, gate, mode, first, seat,
     );
-    let (start, trail, disks) = system.finish(rt, first, others);
+    let (start, trail, disks, wanting) = system.finish(rt, first, others);
     Ended {
-        ran,
+        ran: told_of(ran, wanting),
         start,
         trail,
         disks,

@@ -2,10 +2,10 @@
 pub mod WrittenBodies
 pub mod ActiveDisks
 pub mod FoldedDisks
-pub mod FoldedPairs
 pub mod PairsStand
 pub mod CutOffPairs
 pub mod NextMounting
 mod WorkedPairs
 mod WorkedFolds
+pub mod NextBases
 pub mod ImagesKept

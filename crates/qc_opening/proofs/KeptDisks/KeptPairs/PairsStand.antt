@@ -16,11 +16,11 @@ use Rattle.qc_event.specs.Tables.{setting_of}
 use Rattle.qc_journal.specs.Image.{HasRecords}
 use Rattle.qc_ledger.specs.Entered.{told_body}
 use Rattle.qc_ledger.proofs.Firsts.{made_proper}
-use Rattle.qc_opening.specs.Pairs.{AreKeptInPairs, AreLeftByFolds, IsCopyFolded, IsFolded, IsLedgerFolded, IsUnfolded, MountedInPairs, active_images, active_number, next_base, of_active, other_image, other_made}
+use Rattle.qc_opening.specs.Mountings.{AreKept}
+use Rattle.qc_opening.specs.Pairs.{AreFoldedInPairs, AreLeftByFolds, IsCopyFolded, IsFolded, IsLedgerFolded, IsUnfolded, MountedInPairs, active_images, active_number, next_base, of_active, other_image, other_made}
 use Rattle.qc_opening.proofs.KeptDisks.Choices.{Each, each_at_once}
 use Rattle.qc_opening.proofs.KeptDisks.KeptPairs.ActiveDisks.{HasActive, active_at}
 use Rattle.qc_opening.proofs.KeptDisks.KeptPairs.FoldedDisks.{next_active, number_behind, still_active}
-use Rattle.qc_opening.proofs.KeptDisks.KeptPairs.FoldedPairs.{CopyFolded, CopyLeft, LedgerLeft, left_stand}
 use Rattle.qc_opening.proofs.KeptDisks.KeptPairs.WrittenBodies.{mounted_copy_base, mounted_ledger_base}
 use Rattle.qc_opening.proofs.KeptDisks.Stands as disks
 use Rattle.qc_pair.specs.Front.{base_form, number_in}
@@ -33,6 +33,7 @@ use Rattle.qc_refine.specs.Pairs.{IsFoldedCopy, IsFoldedLedger, StandInPairsWith
 use Rattle.qc_refine.specs.Standing.{IsOfEpoch}
 use Rattle.qc_site.specs.Back.{grant_body}
 use Rattle.qc_system.specs.Left.{KeepsGrants, KeepsTops}
+use Rattle.qc_refine.proofs.Restoring.ActiveImages.{CopyFolded, CopyLeft, LedgerLeft, left_stand}
 
 -- the number of a disk or of its spare is a byte
 byte_number : (is_spare : Bool) (pair : ℕ) → pair ≤ 16 → number_at is_spare pair < 256
@@ -40,15 +41,6 @@ byte_number true pair low = omega (arith, low)
 byte_number false pair low = omega (arith, low)
 
 module _ (table : Table) (told : ℕ → Option (List ℕ)) (records : ℕ → List (List ℕ)) (epoch : ℕ) (base : List (List Tuple)) (m : MountedInPairs table told records epoch base) where
-  -- what a run with no folds leaves is so left
-  pub kept_left : (past : Past) (images : List (List ℕ)) → AreKeptInPairs m past images → AreLeftByFolds m past images
-  kept_left past images kept = record {
-    as_many = kept.as_many;
-    active = kept.active;
-    ledger = inl (inl kept.ledger);
-    copies = λ copy there. inl (inl (kept.copies copy there));
-  }
-
   module _ (past : Past) (images : List (List ℕ)) where
     abbrev actives : List (List ℕ)
     actives = active_images table m.swapped images
@@ -144,11 +136,11 @@ module _ (table : Table) (told : ℕ → Option (List ℕ)) (records : ℕ → L
 
     -- ALL PAIRS
 
-    module _ (left : AreLeftByFolds m past images) where
-      -- what the active image of each copy's pair has
-      abbrev CopiesSame : Type 0
-      CopiesSame = (copy : ℕ) (there : copy < table.copies) → HasSameBase kind.Copy (copy + 1) (m.mounted.copies copy there).found
+    -- what the active image of each copy's pair has
+    abbrev CopiesSame : Type 0
+    CopiesSame = (copy : ℕ) (there : copy < table.copies) → HasSameBase kind.Copy (copy + 1) (m.mounted.copies copy there).found
 
+    module _ (left : AreLeftByFolds m past images) where
       copy_left : CopiesSame → Each table.copies (CopyLeft table base epoch past images number actives)
       copy_left same copy there = ⊎_elim
           (λ unfolded. inl (unfolded_active kind.Copy (copy + 1) (omega (arith, there)) (m.mounted.copies copy there).found (m.copies copy there) (same copy there) unfolded))
@@ -161,6 +153,15 @@ module _ (table : Table) (told : ℕ → Option (List ℕ)) (records : ℕ → L
           (λ folded. inr (folded.0, ledger_folded ledger folded.1, λ copy there. copy_folded copy there (same copy there) (folded.2 copy there)))
           left.ledger
 
+  -- what the active image of each pair has
+  all_same : (past : Past) (images : List (List ℕ)) → AreKept table base records past (active_images table m.swapped images)
+      → ∥ HasSameBase past images kind.Ledger 0 m.mounted.ledger.found × CopiesSame past images ∥₁
+  all_same past images active =
+      ∥∥₁_elim (∥∥₁_map active.ledger (ledger_same past images)) ∥∥₁_prop (λ ledger.
+      ∥∥₁_map (each_at_once table.copies (λ copy. (there : copy < table.copies) → HasSameBase past images kind.Copy (copy + 1) (m.mounted.copies copy there).found)
+      (λ copy there. ∥∥₁_map (active.copies copy there) (λ keeps there. copy_same past images copy there keeps)))
+      (λ same. (ledger, λ copy there. same copy there there)))
+
   -- the images of pairs that keep a legal history, and were folded or not, stand beside it
   pub stand : (past : Past) (images : List (List ℕ)) → Legal (setting_of table base) past → length past ≤ limit → IsOfEpoch epoch past → AreLeftByFolds m past images
       → ∥ StandInPairsWithin 1 table base epoch past images ∥₁
@@ -168,8 +169,11 @@ module _ (table : Table) (told : ℕ → Option (List ℕ)) (records : ℕ → L
       let number = active_number m.swapped in
       let actives = active_images table m.swapped images in
       ∥∥₁_elim (disks.stand number table (of_active table m.swapped told) records epoch base m.mounted past actives legal few of_epoch left.active) ∥∥₁_prop (λ s.
-      ∥∥₁_elim (∥∥₁_map left.active.ledger (ledger_same past images)) ∥∥₁_prop (λ ledger.
-      ∥∥₁_map (each_at_once table.copies (λ copy. (there : copy < table.copies) → HasSameBase past images kind.Copy (copy + 1) (m.mounted.copies copy there).found)
-      (λ copy there. ∥∥₁_map (left.active.copies copy there) (λ keeps there. copy_same past images copy there keeps)))
-      (λ same. left_stand table base epoch past images number actives 1 s left.as_many
-      (ledger_left past images left ledger (λ copy there. same copy there there)) (copy_left past images left (λ copy there. same copy there there)))))
+      ∥∥₁_map (all_same past images left.active)
+      (λ same. left_stand table base epoch past images number actives 1 s left.as_many (ledger_left past images left same.0 same.1) (copy_left past images left same.1)))
+
+  -- where each pair was folded, they tell so
+  pub tell_folded : (past : Past) (images : List (List ℕ)) → AreKept table base records past (active_images table m.swapped images)
+      → IsLedgerFolded m past images → ((copy : ℕ) (there : copy < table.copies) → IsCopyFolded m past images copy there) → ∥ AreFoldedInPairs table base epoch past images ∥₁
+  tell_folded past images active ledger copies = ∥∥₁_map (all_same past images active)
+      (λ same. (ledger_folded past images same.0 ledger, λ copy there. copy_folded past images copy there (same.1 copy there) (copies copy there)))

@@ -5,8 +5,8 @@ use Rattle.std.specs.Prelude.{Bool, Some}
 use Rattle.qc_event.specs.Tables.{base_of}
 use Rattle.qc_journal.proofs.Readings.{records-same}
 use Rattle.qc_journal.specs.Image.{HasRecords}
-use Rattle.qc_opening.specs.Pairs.{AreKeptInPairs, MountedInPairs}
-use Rattle.qc_opening.proofs.KeptDisks.KeptPairs.PairsStand.{kept_left, stand}
+use Rattle.qc_opening.specs.Pairs.{AreLeftByFolds, MountedInPairs}
+use Rattle.qc_opening.proofs.KeptDisks.KeptPairs.PairsStand.{stand}
 use Rattle.qc_opening.proofs.KeptDisks.Worked.{images, kept, mounted, records, table}
 use Rattle.qc_pair.specs.Opening.{HaveActive}
 use Rattle.qc_pair.specs.declared.kind.Kind.{Kind}
@@ -44,13 +44,13 @@ pairs_mounted = record {
 abbrev pair_images : List (List ℕ)
 pair_images = get_or images 0 [] ∷ get_or images 1 [] ∷ [] ∷ [] ∷ []
 
-pairs_kept : AreKeptInPairs pairs_mounted [] pair_images
+pairs_left : AreLeftByFolds pairs_mounted [] pair_images
 unfolding own_active
-pairs_kept = record {
+pairs_left = record {
   as_many = refl;
   active = kept;
-  ledger = no_record;
-  copies = λ copy there. each_copy copy there;
+  ledger = inl (inl no_record);
+  copies = λ copy there. inl (inl (each_copy copy there));
 }
   where
     each_copy : (copy : ℕ) → copy < 1 → HasRecords [] (get_or pair_images (1 + 1 + (copy + 1)) [])
@@ -60,4 +60,4 @@ pairs_kept = record {
 -- so they stand beside the empty history
 stands : ∥ StandInPairsWithin 1 table (base_of table) 1 [] pair_images ∥₁
 stands = stand table (λ place. Some []) records 1 (base_of table) pairs_mounted [] pair_images tt (omega arith) (λ number began. absurd (true≢false (sym began)))
-    (kept_left table (λ place. Some []) records 1 (base_of table) pairs_mounted [] pair_images pairs_kept)
+    pairs_left

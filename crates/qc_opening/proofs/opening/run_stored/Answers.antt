@@ -1,8 +1,9 @@
 -- What the disks told that the shop gave, it offered.
 use Rattle.std.proofs.Common.{rules, ℕ, ◌≡◌, ◌≢◌, ◌⊎◌, ◌++◌, List, map, ap, sym, subst, inr, ◌∙◌}
-use Rattle.std.specs.Prelude.{All}
+use Rattle.std.specs.Prelude.{All, IsOk}
 use Rattle.qc_disk.specs.Shop.{disks_of_place}
 use Rattle.qc_codec.specs.declared.image.BadImage.{BadImage}
+use Rattle.qc_event.specs.Standing.{HasEnded}
 use Rattle.qc_event.specs.Tables.{base_of}
 use Rattle.qc_opening.specs.Images.{IsFirstFault}
 use Rattle.qc_opening.specs.Obtained.{IsNotGiven}
@@ -15,9 +16,9 @@ use Rattle.qc_script.specs.Reading.{IsProper}
 use Rattle.qc_script.specs.Steps.{plan_of_script}
 use Rattle.qc_opening.specs.Disks.{by_place, first_numbers, told_by}
 use Rattle.qc_opening.specs.Parts.{counted_by}
-use Rattle.qc_opening.specs.Stored.{disks_of, past_of, AreImages, HasKept, HasRun, HaveGrown, HavePaid, UnablesHadCause}
+use Rattle.qc_opening.specs.Stored.{disks_of, past_of, AreImages, HasKept, HasRun, HaveGrown, HavePaid, UnablesHadCause, WereFolded}
 use Rattle.qc_opening.proofs.Grown.{had_cause, have_grown}
-use Rattle.qc_opening.proofs.Told.{all_returned, counted_at, error_returned, first, kept, paid, restored, stands, tell_offered}
+use Rattle.qc_opening.proofs.Told.{all_returned, counted_at, error_returned, first, folded, kept, paid, restored, stands, tell_offered}
 use Rattle.qc_opening.proofs.opening.run_stored.Goals as goal
 
 pub returns-in_err-disks-clause-disks : goal.returns-in_err-disks-clause-disks
@@ -81,7 +82,7 @@ returns-clause-stands g c = λ all_tell.
     let counts = counted_by (map (λ d. (view d).faults) disks) in
     let tells = tell_offered view plan.table offers disks c.in_ok-disks.ensures.offered c.in_ok-disks.ensures.all in
     if_ok c.run_disks.result (HasRun view plan c.args.limit told counts) (λ stored. (images : List (List ℕ)) → AreImages view (disks_of stored) images → ∥ StandInPairsWithin 1 plan.table stored.ended.start stored.epoch (past_of stored) images ∥₁) c.run_disks.ensures.ran
-    (λ stored run. stands view plan c.args.limit told counts stored run offers tells all_tell)
+    (λ stored run. stands view plan c.args.limit told counts stored run offers tells c.known_now.ensures all_tell)
 
 pub returns-clause-grown : goal.returns-clause-grown
 returns-clause-grown g c =
@@ -119,6 +120,20 @@ returns-clause-paid g c =
     let tells = tell_offered view plan.table offers disks c.in_ok-disks.ensures.offered c.in_ok-disks.ensures.all in
     if_ok c.run_disks.result (HasRun view plan c.args.limit told counts) (λ stored. HavePaid view plan.table offers shop stored.epoch stored.ended.start (disks_of stored) (past_of stored)) c.run_disks.ensures.ran
     (λ stored run. paid view plan c.args.limit told counts stored run offers tells shop (counted_at view plan.table shop disks c.in_ok-disks.ensures.counted c.in_ok-disks.ensures.all))
+
+pub returns-clause-folded : goal.returns-clause-folded
+returns-clause-folded g c =
+    let view = g.H.D.Disk.view in
+    let plan = plan_of_script c.args.script.now in
+    let offers = by_place plan.table.copies ((g.H.Shop.view c.args.shop.now).offers c.args.place.now) in
+    let shop = by_place plan.table.copies ((g.H.Shop.view c.args.shop.now).counts c.args.place.now) in
+    let disks = c.in_ok-disks.disks.items in
+    let told = told_by (map (λ d. (view d).content) disks) in
+    let counts = counted_by (map (λ d. (view d).faults) disks) in
+    let tells = tell_offered view plan.table offers disks c.in_ok-disks.ensures.offered c.in_ok-disks.ensures.all in
+    if_ok c.run_disks.result (HasRun view plan c.args.limit told counts)
+    (λ stored. IsOk stored.ended.ran → HasEnded (past_of stored) → WereFolded view plan.table c.args.limit offers shop stored.epoch stored.ended.start (disks_of stored) (past_of stored)) c.run_disks.ensures.ran
+    (λ stored run. folded view plan c.args.limit told counts stored run offers tells shop (counted_at view plan.table shop disks c.in_ok-disks.ensures.counted c.in_ok-disks.ensures.all))
 
 pub returns-clause-sound : goal.returns-clause-sound
 returns-clause-sound g c = λ images offered.

@@ -1,5 +1,5 @@
 -- The disks in places of their own are mounted as they are themselves.
-use Rattle.std.proofs.Common.{ℕ, ◌≡◌, ◌+◌, ◌≤◌, List, [], map, length, refl, rules, sym, subst, arith, ◌∙◌}
+use Rattle.std.proofs.Common.{ℕ, ◌≡◌, List, map, length, refl, rules, sym, subst, arith, ◌∙◌}
 use Rattle.qc_codec.specs.Bodies as body
 use Rattle.qc_codec.specs.declared.image.BadImage.{BadImage}
 use Rattle.qc_opening.specs.Disks.{all_places, told_by}

@@ -42,6 +42,7 @@ returns-in-Ok-clause-answer g c =
         grown = has.grown;
         paid = has.paid;
         unable = has.unable;
+        folded = λ end each. has.folded (tells.ran end) each;
       });
       given = record { gave = has.gave; others = has.others };
     }

@@ -1,11 +1,12 @@
-use Rattle.std.proofs.Common.{refl, sym, subst, map, inl, inr}
+use Rattle.std.proofs.Common.{refl, reverse, sym, subst, map, inl, inr}
 use Rattle.std.specs.Prelude.{string_bytes}
 use Rattle.qc_opening.specs.Images.{IsFirstFault, Offers}
 use Rattle.qc_script.specs.Plan.{ScriptPlan}
-use Rattle.qc_run.specs.Run.{journal_limit, BeganNothing, IsDiskFault}
+use Rattle.qc_run.specs.Run.{journal_limit, BeganNothing, IsDiskFault, RanToEnd}
 use Rattle.qc_run.specs.Words.{asked_as, place_of}
 use Rattle.qc_run.proofs.Asking.{reads_no_trail}
 use Rattle.qc_run.proofs.Clauses as clause
+use Rattle.qc_run.proofs.Doubts.{tops_ended}
 use Rattle.qc_run.proofs.Moments.{serial_orders}
 use Rattle.qc_run.proofs.RunFacts.{serial_values, sound_from}
 use Rattle.qc_run.proofs.Statuses.{ended_session, reported_ran, failed_ran, ran_read}
@@ -81,6 +82,11 @@ returns-clause-offers g c = clause.others _ g.H.Shop.view _ _ _ _ _ _ _ _ c.answ
 
 pub returns-clause-paid : goal.returns-clause-paid
 returns-clause-paid g c = clause.of_run _ g.H.Shop.view _ _ _ _ _ _ _ _ _ c.answer.ensures.answer (λ s it has. (has.epoch, has.begins, clause.as_asked (map string_bytes c.args.words.now) it.asked _ it.is_command has.paid))
+
+pub returns-clause-pairs_folded : goal.returns-clause-pairs_folded
+returns-clause-pairs_folded g c = λ done.
+    let ended = tops_ended (reverse c.answer.result.trail) (clause.all_have_ended _ g.H.Shop.view _ _ _ _ _ _ _ _ c.answer.ensures.answer done) in
+    clause.of_run _ g.H.Shop.view _ _ _ _ _ _ _ _ _ c.answer.ensures.answer (λ s it has. (has.epoch, has.begins, clause.as_asked (map string_bytes c.args.words.now) it.asked _ it.is_command (has.folded (subst RanToEnd (sym done) tt) ended)))
 
 pub returns-clause-unable : goal.returns-clause-unable
 returns-clause-unable g c = clause.of_run _ g.H.Shop.view _ _ _ _ _ _ _ _ _ c.answer.ensures.answer (λ s it has. (has.epoch, has.begins, clause.as_asked (map string_bytes c.args.words.now) it.asked _ it.is_command has.unable))
