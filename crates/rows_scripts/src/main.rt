@@ -8,6 +8,7 @@
 //! too. Behind that stand steps with `;` between:
 //! - `keep`: the disks are those that came back from the last case.
 //! - `image N BODY ..`: disk N is a journal of these records, each body in hex.
+//! - `bytes N HEX`: disk N has these bytes.
 //! - `fail N CALL done CALL not ..`: disk N fails at these calls, its work done or not.
 //! - `shop N ..`: the shop fails at these numbers.
 //!

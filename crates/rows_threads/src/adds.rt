@@ -20,8 +20,8 @@ const SESSION: &str = r#"{"tops":[
 {"tries":16,"steps":[["add","x",1]]},
 {"tries":16,"steps":[["add","x",1]]}]}"#;
 
-// A script of so many sessions.
-fn script_of(alloc: Global, sessions: u64) -> Result<String, AllocError> {
+/// A script of so many sessions.
+pub(crate) fn script_of(alloc: Global, sessions: u64) -> Result<String, AllocError> {
     let mut text = Text::new(alloc);
     text.add(RECORD);
     for number in 0..sessions {
@@ -34,8 +34,8 @@ fn script_of(alloc: Global, sessions: u64) -> Result<String, AllocError> {
     text.whole()
 }
 
-// The number that stands in a report behind these words.
-fn number_behind(text: &str, words: &str) -> Option<u64> {
+/// The number that stands in a report behind these words.
+pub(crate) fn number_behind(text: &str, words: &str) -> Option<u64> {
     let (_, rest) = text.rsplit_once(words)?;
     rest.split_ascii_whitespace().next()?.parse::<u64>().ok()
 }

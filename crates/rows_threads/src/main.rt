@@ -8,6 +8,8 @@
 //!   bodies at once, and `kill OPTION ..` of a session that marks the other's top before it writes.
 //! - `adds SESSIONS RUNS`: each session adds to one record; how many runs counted each top that was committed, and no
 //!   other, and had no request refused twice, as each is delivered once.
+//! - `carries SESSIONS RUNS`: the same over the disks of one store; how many runs ended with the value of all that was
+//!   committed up to then, and left each pair of disks folded.
 //! - `follow SEED RUNS OPTION ..`: scripts made from a seed; how many of their histories are legal as the checker has it,
 //!   pass the audit of their saved trail, and follow their script as the judge has it, and whether a transaction was killed.
 //! - `branches SEED RUNS OPTION ..`: the same of scripts that run bodies at once.
@@ -20,6 +22,7 @@
 mod adds;
 mod audits;
 mod branches;
+mod carried;
 mod command;
 mod crossing;
 mod ends;
@@ -36,6 +39,7 @@ mod text;
 
 use adds::{agrees, count_agreed};
 use audits::count_following;
+use carried::count_carried;
 use command::run_text;
 use crossing::Crossing;
 use judged::has_killed;
@@ -170,6 +174,10 @@ fn answer<R: Threads + Wait + Sync>(
         "adds" => {
             let agreed = count_agreed(handle, alloc, number(first), number(second))?;
             println!(rt; ": {agreed} agreed")
+        }
+        "carries" => {
+            let carried = count_carried(handle, alloc, number(first), number(second))?;
+            println!(rt; ": {carried} carried")
         }
         "follow" => print_follow(handle, rt, alloc, Tops::InTurn, rest),
         "branches" => print_follow(handle, rt, alloc, Tops::AtOnce, rest),
