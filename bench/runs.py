@@ -84,12 +84,31 @@ def records_in(image):
         place = end
 
 
+def base_in(image):
+    """The body of a journal's base, and none where it has none."""
+    second = b"".join(list(records_in(image))[1:2])
+    return second if second.startswith(BASE) else b""
+
+
 def fold_in(image):
     """The number of a journal's base, 0 where it has none."""
-    second = b"".join(list(records_in(image))[1:2])
-    return number_in(second[1:9]) if second.startswith(BASE) else 0
+    return number_in(base_in(image)[1:9])
+
+
+def folded_in(image):
+    """The epoch of the run that made a journal's base, 0 where it has none."""
+    return number_in(base_in(image)[9:13])
+
+
+def active_disk(folder, disk):
+    """A disk or its spare, by its number: that whose base has the greater number, else the disk itself."""
+    return max((disk, disk + SPARE), key=lambda number: fold_in(image_of(folder, number)))
+
+
+def other_disk(folder, disk):
+    """The one of a disk and its spare that is not active, into which the next run folds."""
+    return 2 * disk + SPARE - active_disk(folder, disk)
 
 
 def active_image(folder, disk):
-    """The bytes of a disk or of its spare: of that whose base has the greater number, else the disk's own."""
-    return max(image_of(folder, disk), image_of(folder, disk + SPARE), key=fold_in)
+    return image_of(folder, active_disk(folder, disk))

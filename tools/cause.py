@@ -13,6 +13,8 @@ from script_text import MOST_BYTES, Refused, read_script
 MOST_COPIES = 16
 # What a disk's number and that of its spare differ by: so many disks may have spares.
 SPARE = MOST_COPIES + 1
+# A file that says that spares of the folder had bytes once.
+USED = "spares"
 GATES = (b"\x00", b"\x01")
 MADE = b"\x01\x01"
 BASE = b"\x04"
@@ -143,24 +145,42 @@ def fault_of_file(path):
     return None
 
 
-def fault_of_missing(path, others, made, asked):
-    """What is wrong where a file is missing beside others that have bytes."""
+def fault_of_missing(path, beside, made, asked):
+    """What is wrong where a file is missing that other files of the store say was there."""
     if made and asked and asked.copies > made.copies:
         return f"there is no {path}: the store was made for {made.copies} copies, and the script has {asked.copies}"
-    return f"there is no {path}, and other {others} of the store have bytes: it was lost (docs/FORMATS.md, \"Words\")"
+    return f"there is no {path}, and {beside}: it was lost (docs/FORMATS.md, \"Words\")"
 
 
-def fault_of_row(folder, first, others, made, asked):
-    """The first disk with a fault, of those from a number on, and the fault. They stand beside others of their kind."""
-    paths = [os.path.join(folder, str(number)) for number in range(first, first + SPARE)]
+def row_in(folder, first):
+    return [os.path.join(folder, str(number)) for number in range(first, first + SPARE)]
+
+
+def kept_beside(folder, first):
+    """What says of the files of a row that none is new, or nothing: of spares the mark does, and spares do of the disks."""
+    if any(map(size_of, row_in(folder, first))):
+        return "other spares of the store have bytes" if first else "other disks of the store have bytes"
+    if first and os.path.lexists(os.path.join(folder, USED)):
+        return f"the file {USED} says that the store's spares had bytes"
+    if not first and any(map(size_of, row_in(folder, SPARE))):
+        return "spares of the store have bytes"
+    return None
+
+
+def fault_of_row(folder, first, made, asked):
+    """The first disk with a fault, of those from a number on, and the fault."""
+    paths = row_in(folder, first)
     table = asked or made
-    has_bytes = any(map(size_of, paths))
+    beside = kept_beside(folder, first)
+    mark = os.path.join(folder, USED)
+    if first and beside and not os.path.lexists(mark) and not os.access(folder, os.W_OK):
+        return first, f"there is no permission to make {mark}"
     for number, path in enumerate(paths[: table.copies + 1] if table else paths, first):
         fault = None
         if os.path.lexists(path):
             fault = fault_of_file(path)
-        elif has_bytes and (table or number == first):
-            fault = fault_of_missing(path, others, made, asked)
+        elif beside and (table or number == first):
+            fault = fault_of_missing(path, beside, made, asked)
         elif not os.access(folder, os.W_OK):
             fault = f"there is no permission to make {path}"
         if fault:
@@ -171,7 +191,7 @@ def fault_of_row(folder, first, others, made, asked):
 def fault_of_store(folder, asked):
     """The first disk with a fault, as they are obtained, the spares behind all others, and the fault."""
     made = table_on(os.path.join(folder, str(active_in(folder, 0))))
-    return fault_of_row(folder, 0, "disks", made, asked) or fault_of_row(folder, SPARE, "spares", made, asked)
+    return fault_of_row(folder, 0, made, asked) or fault_of_row(folder, SPARE, made, asked)
 
 
 def tell_fault(folder):
