@@ -15,17 +15,17 @@ use Rattle.qc_disk.proofs.Moments.{Passes, elapses-applied, elapses-same, leaves
 abbrev images_of : MemDisk → List ℕ → Type 0
 images_of disk c = images (mem_first disk) (mem_acts disk) c
 
-abbrev tape_images : Tape → List ℕ → Type 0
+abbrev pub tape_images : Tape → List ℕ → Type 0
 tape_images tape c = images (tape_first tape) (tape_acts tape) c
 
 -- the images of a tape after an act
-applied-left : (old new : Tape) (act : Act) → Applied old new act → tape_bytes old ≡ replayed (tape_first old) (tape_acts old) → (c : List ℕ) → tape_images new c → leaves act (tape_bytes old) (tape_images old) c
+pub applied-left : (old new : Tape) (act : Act) → Applied old new act → tape_bytes old ≡ replayed (tape_first old) (tape_acts old) → (c : List ℕ) → tape_images new c → leaves act (tape_bytes old) (tape_images old) c
 applied-left old new act applied is c left =
     let there = leaves-applied (tape_first old) (tape_first new) (tape_acts old) (tape_acts new) act applied.first applied.acts c left in
     subst (λ (b : List ℕ). leaves act b (tape_images old) c) (sym is) there
 
 -- those of one that is not touched
-untouched-left : (old new : Tape) → Untouched old new → (c : List ℕ) → tape_images new c → tape_images old c
+pub untouched-left : (old new : Tape) → Untouched old new → (c : List ℕ) → tape_images new c → tape_images old c
 untouched-left old new same c left =
     subst (λ (l : List Act). images (tape_first old) l c) same.acts (subst (λ (f : List ℕ). images f (tape_acts new) c) same.first left)
 
@@ -109,7 +109,7 @@ pub turn-cut : {T : Type 0} (old new : MemDisk) (to : ℕ) (result : Result T Di
 turn-cut old new to result turned = turn-follows old new (cut_to to) (Cut to) result (cut_same to) (λ c left. left) turned
 
 -- there are no images but the old ones
-within : (before now : List ℕ → Type 0) → ImagesFollow (λ d c. c ≡ d) before now → Within before now
+pub within : (before now : List ℕ → Type 0) → ImagesFollow (λ d c. c ≡ d) before now → Within before now
 within before now follows c left = let from = follows c left in subst before (sym from.2) from.1
 
 pub turn-still : {T : Type 0} (old new : MemDisk) (result : Result T DiskNo) → Turned old new nothing result → Within (images_of old) (images_of new)
@@ -157,7 +157,7 @@ turn-bytes old new act (Err Failed) same turned = failing-bytes old new act same
 turn-bytes old new act (Err Memory) same turned = turned.tape.bytes
 
 -- one more sync in a record
-syncs-push : (acts : List Act) → syncs_in (acts ++ synced ∷ []) ≡ syncs_in acts + 1
+pub syncs-push : (acts : List Act) → syncs_in (acts ++ synced ∷ []) ≡ syncs_in acts + 1
 syncs-push [] = refl
 syncs-push (nothing ∷ acts) = syncs-push acts
 syncs-push (wrote at bytes ∷ acts) = syncs-push acts

@@ -7,5 +7,7 @@ pub mod MemDisk
 pub mod Shop
 pub mod MemShop
 pub mod Given
+pub mod StopDisk
+pub mod StopShop
 pub mod Home
 pub mod Between

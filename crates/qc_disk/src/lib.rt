@@ -10,6 +10,7 @@ mod law;
 mod memory;
 mod records;
 mod shop;
+mod stop;
 mod syncs;
 mod tape;
 
@@ -19,4 +20,5 @@ pub use file::FileDisk;
 pub use home::{HomeDisk, HomeShop};
 pub use law::left_between;
 pub use memory::MemDisk;
-pub use shop::{MemShop, Shop};
+pub use shop::{MemShop, Shop, StopShop};
+pub use stop::StopDisk;

@@ -5,11 +5,13 @@ ghost use Rattle.qc_disk.specs.Shop.{ShopView, Tells, TellsAlike, if_given};
 
 mod given;
 mod memory;
+mod stop;
 
 use crate::disk::{Disk, DiskNo};
 pub(crate) use given::Given;
 pub use memory::MemShop;
 use std::alloc::Global;
+pub use stop::StopShop;
 
 /// Gives the disks of a place, by their numbers.
 pub trait Shop {

@@ -17,7 +17,7 @@ pub struct MemShop {
 }
 
 // Puts an item in the place of another, and gives that, or the item itself where there is no such place.
-fn exchange<T: Drop>(items: &mut Vec<T>, at: usize, item: T) -> T
+pub(super) fn exchange<T: Drop>(items: &mut Vec<T>, at: usize, item: T) -> T
     ensures answer { result ≡ slice_index_or items.old.items at item }
     ensures items { items.new.items ≡ slice_set items.old.items at item }
 {
