@@ -1,11 +1,12 @@
 -- What a refused record leaves in hand.
-use Rattle.std.proofs.Common.{◌≡◌, ◌⊎◌, inl, inr, ⊎_elim, ℕ, List, sym, ap, ◌∙◌, subst, arith}
-use Rattle.std.specs.Prelude.{◌↔◌, Option, None, Some}
+use Rattle.std.proofs.Common.{◌≡◌, ◌⊎◌, inl, inr, ⊎_elim, ℕ, ◌+◌, List, length, sym, ap, ◌∙◌, subst, arith}
+use Rattle.std.proofs.lemmas.Bool.{cases_lt}
+use Rattle.std.specs.Prelude.{◌↔◌, ◌^◌, Option, None, Some, OnOk, Result, Ok, Err}
 use Rattle.qc_disk.specs.Disk.{IsImage}
 use Rattle.qc_disk.specs.declared.disk.Disk.{Ghosts}
 use Rattle.qc_event.specs.History.{Name}
 use Rattle.qc_journal.specs.Image.{HasAt, HasRecords}
-use Rattle.qc_journal.specs.Journal.{AppendLeaves, IsDown, IsUp, Keeps, ImageStands, TakesInHand, disk_of, in_hand, place_of, with_hand}
+use Rattle.qc_journal.specs.Journal.{AppendLeaves, IsDown, IsTooLong, IsUp, Keeps, ImageStands, TakesInHand, disk_of, in_hand, limit_of, place_of, with_hand}
 use Rattle.qc_journal.specs.State.{IsUpState}
 use Rattle.qc_journal.specs.declared.journal.State.{State}
 use Rattle.qc_journal.specs.declared.journal.State.TheVariants.{Up, Down}
@@ -17,7 +18,7 @@ use Rattle.qc_journal.proofs.Moments.{continues, grows_by_falls, grows_on, weake
 use Rattle.qc_ledger.specs.Entered.{GrowsBy}
 use Rattle.qc_ledger.specs.Runs.{Falls, HasOrMore, Leaves, LosesNone}
 use Rattle.qc_ledger.proofs.Writing.{kept_has}
-use Rattle.qc_ledger.specs.Shelf.{IsIdle, IsUnsure, LogLeaves}
+use Rattle.qc_ledger.specs.Shelf.{EndsWithin, IsIdle, IsUnsure, LogLeaves}
 use Rattle.qc_ledger.specs.declared.shelf.Shelf.{Shelf}
 
 module _ {D : Type 0} {g : Ghosts D} (old new : Shelf D g) (top : Name) (body : List ℕ) (up : IsUp old.journal) (none : old.hand ≡ None)
@@ -33,6 +34,20 @@ module _ {D : Type 0} {g : Ghosts D} (old new : Shelf D g) (top : Name) (body : 
   write_left (Broken place) left = absurd left
   write_left (Full place) left = (left.0, left.1, kept (subst IsUp (sym left.1) up))
   write_left Memory left = ⊎_elim (λ same. inl (idle same)) (λ takes. inr (unsure takes)) left
+
+-- a record that was written, and that would not have passed the limit
+module _ {D : Type 0} {g : Ghosts D} (old new : Journal D g) (body : List ℕ) (limit : limit_of new ≡ limit_of old) where
+  ends_within : place_of new ≡ place_of old + 5 + length body → (IsTooLong (place_of old) (limit_of old) body → ⊥) → EndsWithin new body
+  ends_within place short = record {
+    behind = omega (arith, place);
+    within = elim (cases_lt (limit_of old) (place_of old + 6 + length body)) [ inl long ↦ absurd (short (inl long)) | inr room ↦ omega (arith, place, limit, room) ];
+    sized = elim (cases_lt (length body) (2 ^ 32)) [ inl small ↦ small | inr large ↦ absurd (short (inr large)) ];
+  }
+
+  pub append_ends : {T : Type 0} (r : Result T Fault) → OnOk r (place_of new ≡ place_of old + 5 + length body)
+      → (r ≡ Err (Full (place_of old))) ↔ IsTooLong (place_of old) (limit_of old) body → OnOk r (EndsWithin new body)
+  append_ends (Ok x) place full = ends_within place (λ long. absurd (let never = full.1 long in cc))
+  append_ends (Err fault) place full = tt
 
 -- what is not down is up
 pub up_by : (state : State) → ((IsUpState state → ⊥) → ⊥) → IsUpState state

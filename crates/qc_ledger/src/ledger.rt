@@ -14,7 +14,7 @@ ghost use Rattle.qc_journal.specs.Journal.{disk_of, limit_of, place_of, IsDown, 
 ghost use Rattle.qc_ledger.specs.Entered.{MayFinish, SeesMore};
 ghost use Rattle.qc_ledger.specs.Refusing.{IsWantNo, MayCostTwo};
 ghost use Rattle.qc_ledger.specs.Runs.{HasOrMore, Leaves, LosesNone, Falls, GoesOn, Costs, CostsOnce, CostsTwice, CostsTwo};
-ghost use Rattle.qc_ledger.specs.Shelf.{journal_in, top_in, top_body, LogLeaves, IsDeviceNo, IsIdle, IsRefusedFor};
+ghost use Rattle.qc_ledger.specs.Shelf.{journal_in, top_in, top_body, EndsWithin, LeavesInHand, LogLeaves, IsDeviceNo, IsIdle, IsRefusedFor, ReviveLeaves};
 ghost use Rattle.qc_ledger.specs.Since.{IsNext};
 ghost use Rattle.qc_ledger.specs.declared.fault.LedgerNo.TheVariants.{Disk, Full};
 
@@ -51,6 +51,7 @@ impl<D: Disk, N: Store> Ledger<D, N> {
         ensures ok { OnOk result
             (self.new.pass.mine ≡ commits_of (top_in self.old.shelf) ++ self.old.pass.mine) }
         ensures err { OnErr result (self.new.pass.mine ≡ self.old.pass.mine) }
+        ensures calm { top_in self.old.shelf ≡ None → OnErr result ⊥ }
         ensures stands { OnOk result ((top : List ℕ) → top_in self.old.shelf ≡ Some top
             → IsTrue (is_some (end self.new.pass.seen top))) }
         ensures over { (told : List ℕ → List (List ℕ)) (before : List (List ℕ))
@@ -94,6 +95,7 @@ impl<D: Disk, N: Store> Ledger<D, N> {
         ensures idle { IsUp (journal_in self.old.shelf)
             → (OnErr result ⊥) × (self.new.shelf ≡ self.old.shelf) }
         ensures down { OnErr result (IsDown (journal_in self.new.shelf)) }
+        ensures keeps { OnErr result (top_in self.new.shelf ≡ top_in self.old.shelf) }
     {
         if self.shelf.is_up() {
             return Ok(());
@@ -125,6 +127,8 @@ impl<D: Disk, N: Store> Ledger<D, N> {
         ensures too_long { IsTooLong (place_of (journal_in self.old.shelf))
             (limit_of (journal_in self.old.shelf)) (top_body top.now aborted.now)
             → IsRefusedFor (Full (place_of (journal_in self.old.shelf))) result }
+        ensures within { OnOk result
+            (EndsWithin (journal_in self.new.shelf) (top_body top.now aborted.now)) }
         ensures any_moment { (bodies : List (List ℕ)) → Keeps (journal_in self.old.shelf) bodies
             → Leaves (journal_in self.old.shelf) (journal_in self.new.shelf)
             (HasOrMore bodies (top_body top.now aborted.now)) }
@@ -229,7 +233,12 @@ impl<D: Disk, N: Store> Ledger<D, N> {
             → IsTooLong (place_of (journal_in self.old.shelf)) (limit_of (journal_in self.old.shelf))
             (top_body top.now aborted.now) → RefusesLong (place_of (journal_in self.old.shelf))
             self.old.pass.mine self.new.pass.mine result }
+        ensures within { OnOk result ((CommitsHand (top_in self.old.shelf)
+            self.old.pass.mine self.new.pass.mine)
+            ⊎ (EndsWithin (journal_in self.new.shelf) (top_body top.now aborted.now))) }
         ensures down { IsErrOf result Disk → IsDown (journal_in self.new.shelf) }
+        ensures hand { IfErr result (λ refusal. LeavesInHand refusal
+            (top_in self.old.shelf) top.now (top_in self.new.shelf)) }
         ensures became { LedgerBecame (Some (record { top = top.now; aborted = aborted.now }))
             (ledger_state self.old) (ledger_state self.new) }
         ensures seer { SeesMore seer.old seer.new }
@@ -267,8 +276,9 @@ impl<D: Disk, N: Store> Ledger<D, N> {
 
         // At an error what was entered is at most the commit of the top in hand, and then that this top was not logged. Full
         // comes only where the record would pass the limit at its place; the ledger is up then, with nothing in hand. One that
-        // was so before answers nothing else, but for want, of such a top that has not ended. After a fault of the disk it is
-        // down.
+        // was so before answers nothing else, but for want, of such a top that has not ended. Where a top's commit was entered
+        // its record did not pass the limit. After a fault of the disk it is down, with the top in hand that it had before the
+        // call, or this one.
         ensures logged { OnOk result
             (HasLogged top.now (ledger_state self.old) (ledger_state self.new)) }
         ensures refused { IfErr result (λ refusal. RefusalEnters refusal
@@ -281,7 +291,12 @@ impl<D: Disk, N: Store> Ledger<D, N> {
             → IsTooLong (place_of (journal_in self.old.shelf)) (limit_of (journal_in self.old.shelf))
             (top_body top.now aborted.now) → RefusesLong (place_of (journal_in self.old.shelf))
             self.old.pass.mine self.new.pass.mine result }
+        ensures within { OnOk result ((CommitsHand (top_in self.old.shelf)
+            self.old.pass.mine self.new.pass.mine)
+            ⊎ (EndsWithin (journal_in self.new.shelf) (top_body top.now aborted.now))) }
         ensures down { IsErrOf result Disk → IsDown (journal_in self.new.shelf) }
+        ensures hand { IfErr result (λ refusal. LeavesInHand refusal
+            (top_in self.old.shelf) top.now (top_in self.new.shelf)) }
         ensures became { LedgerBecame (Some (record { top = top.now; aborted = aborted.now }))
             (ledger_state self.old) (ledger_state self.new) }
         ensures seer { SeesMore seer.old seer.new }
@@ -309,11 +324,13 @@ impl<D: Disk, N: Store> Ledger<D, N> {
     }
 
     /// Brings the ledger up where it is down. The commit of the top in hand is entered where its record stands; one whose
-    /// record does not is let go of.
+    /// record does not is let go of. A refusal keeps the top in hand: after a fault of the disk the ledger is down, and for
+    /// want of room it is up.
     pub fn revive<R: Wait>(&mut self, rt: &R, desk: &Desk<N>) -> Result<(), LedgerNo>
         ensures up { OnOk result (IsUp (journal_in self.new.shelf)) }
         ensures none { OnOk result (top_in self.new.shelf ≡ None) }
         ensures refused { IfErr result IsReviveNo }
+        ensures left { IfErr result (ReviveLeaves self.old.shelf self.new.shelf) }
         ensures room { IsErrOf result (LedgerNo.Short Room) → length self.new.pass.seen ≡ limit }
         ensures enters { CommitsHand (top_in self.old.shelf)
             self.old.pass.mine self.new.pass.mine }

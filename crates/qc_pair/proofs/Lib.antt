@@ -1,4 +1,4 @@
-mod Bases
+pub mod Bases
 mod Folds
 mod Fronts
 pub mod Halves

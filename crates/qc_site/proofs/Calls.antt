@@ -1,6 +1,6 @@
 -- What one call of a site leaves, and what that and the next leave together.
-use Rattle.std.proofs.Common.{◌≡◌, inl, inr, ℕ, [], List, ◌++◌, length, refl, sym, ap, ◌∙◌, subst}
-use Rattle.std.specs.Prelude.{Option, None, Some, Result, Ok, Err, IfOk, OnOk, option_to_list, true}
+use Rattle.std.proofs.Common.{◌≡◌, ◌⊎◌, inl, inr, ℕ, [], List, ◌++◌, length, refl, sym, ap, ◌∙◌, subst}
+use Rattle.std.specs.Prelude.{Option, None, Some, Result, Ok, Err, IfErr, IfOk, IsErrOf, OnErr, OnOk, option_to_list, true}
 use Rattle.qc_config.specs.declared.tuple.Tuple.{Tuple}
 use Rattle.qc_event.specs.Grants.{grant_with, MayGrant}
 use Rattle.qc_disk.specs.Disk.{IsImage}
@@ -24,11 +24,13 @@ use Rattle.qc_desk.specs.Entries.{IsOlder}
 use Rattle.qc_desk.proofs.Seers.{older_trans}
 use Rattle.qc_site.specs.AtDesk.{hand_entries}
 use Rattle.qc_site.specs.Back.{grant_body}
-use Rattle.qc_site.specs.Calls.{empty_handed, SiteBecame, CanServe, HasServed, GrantMoments, SiteState, SiteWroteNone}
+use Rattle.qc_site.specs.Calls.{empty_handed, SiteBecame, CanServe, HasServed, GrantMoments, IsUnwrittenNo, SiteState, SiteWroteNone}
 use Rattle.qc_site.specs.Log.{log_journal}
 use Rattle.qc_site.specs.Replica.{Standing}
 use Rattle.qc_site.specs.Since.{GrantsGrow}
-use Rattle.qc_site.specs.Sites.{AnswerEnters, EntersHand, EntersThen, KeepsGranted}
+use Rattle.qc_site.specs.Sites.{AnswerEnters, EntersHand, EntersThen, IsByLocks, IsLeftBy, IsUnwritten, KeepsGranted, WritesNone}
+use Rattle.qc_site.specs.declared.serve.ServeNo.{ServeNo}
+use Rattle.qc_site.specs.declared.serve.ServeNo.TheVariants as no_serve
 use Rattle.qc_site.specs.declared.log.GrantLog.{GrantLog}
 use Rattle.qc_site.proofs.Logs.{entered_over, same_over}
 use Rattle.qc_site.proofs.Since.{grants_on, grants_risen, grants_written}
@@ -78,6 +80,30 @@ served_enters copy ask seer old new (Ok said) served = served.enters
 pub ready_by : {T E : Type 0} (r : Result T E) (s : Standing) → s.up ≡ true → OnOk r (s.hand ≡ None) → OnOk r (CanServe s)
 ready_by (Ok x) s up none = record { up = up; none = none }
 ready_by (Err e) s up none = tt
+
+-- the grant in hand was entered, or is in hand still
+pub entered_or_kept : {T E : Type 0} (r : Result T E) (old new : Option Grant) → OnOk r (new ≡ None) → OnErr r (new ≡ old) → (new ≡ None) ⊎ (new ≡ old)
+entered_or_kept (Ok x) old new none kept = inl none
+entered_or_kept (Err e) old new none kept = inr kept
+
+-- A call that may write finds nothing in hand.
+pub left_on : (ask : Ask) (old new : Option Grant) → IsLeftBy ask None new → IsLeftBy ask old new
+left_on ask old new (inl none) = inl none
+left_on ask old new (inr (inl none)) = inl none
+left_on ask old new (inr (inr grant)) = inr (inr grant)
+
+pub left_by_look : (ask : Ask) (old new : Option Grant) → (new ≡ None) ⊎ (new ≡ old) → IsLeftBy ask old new
+left_by_look ask old new (inl none) = inl none
+left_by_look ask old new (inr same) = inr (inl same)
+
+-- an answer by the locks that wrote nothing
+pub by_locks_none : (said : Answered) → IsByLocks said → WritesNone said → IsUnwritten said
+by_locks_none (answer.Granted tuple) by none = none
+by_locks_none (answer.Blocked holder) by none = none
+by_locks_none (answer.Dead ancestor) by none = none
+by_locks_none answer.Down by none = none
+by_locks_none answer.Full by none = none
+by_locks_none answer.Strange by none = absurd by
 
 -- ONE CALL
 
@@ -162,13 +188,27 @@ module _ (setting : Setting) (copy : ℕ) {D : Type 0} {g : Ghosts D} where
         grew {found} k = subst (λ n. Leaves (log_journal old.log) (log_journal new.log) (GrowsBy (grant_body n grant) (left_by old.log))) copies
             (grew_by (log_journal old.log) (log_journal new.log) (grant_body old.log.copies grant) found k up image (leaves found k))
 
-  pub none_on : (old mid new : SiteState g) → SiteWroteNone setting copy old mid → new.log ≡ mid.log → IsOlder mid.replica.pass.seen new.replica.pass.seen → SiteWroteNone setting copy old new
+  -- and then its journal stayed
+  pub none_on : (old mid new : SiteState g) → SiteWroteNone setting copy old mid → log_journal new.log ≡ log_journal mid.log → IsOlder mid.replica.pass.seen new.replica.pass.seen → SiteWroteNone setting copy old new
   none_on old mid new one same older = record {
-    content = ap (λ (l : GrantLog D g). (g.view (disk_in l)).content) same ∙ one.content;
-    moments = subst (λ (l : GrantLog D g). Leaves (log_journal old.log) (log_journal l) (left_by old.log)) (sym same) one.moments;
-    falls = subst (λ (l : GrantLog D g). Falls (log_journal old.log) (log_journal l)) (sym same) one.falls;
-    grown = λ before since grown. grants_on setting copy before since mid.log new.log mid.replica.pass.seen new.replica.pass.seen (ap (λ (l : GrantLog D g). log_journal l) same) older (one.grown before since grown);
+    content = ap (λ (j : Journal D g). (g.view (disk_of j)).content) same ∙ one.content;
+    moments = subst (λ (j : Journal D g). Leaves (log_journal old.log) j (left_by old.log)) (sym same) one.moments;
+    falls = subst (λ (j : Journal D g). Falls (log_journal old.log) j) (sym same) one.falls;
+    grown = λ before since grown. grants_on setting copy before since mid.log new.log mid.replica.pass.seen new.replica.pass.seen same older (one.grown before since grown);
   }
+
+  pub unwritten_on : {E : Type 0} (old mid new : SiteState g) (r : Result Answered E) → SiteWroteNone setting copy old mid → IsOlder mid.replica.pass.seen new.replica.pass.seen
+      → IfOk r (λ said. IsUnwritten said → log_journal new.log ≡ log_journal mid.log) → IfOk r (λ said. IsUnwritten said → SiteWroteNone setting copy old new)
+  unwritten_on old mid new (Ok said) one older same = λ none. none_on old mid new one (same none) older
+  unwritten_on old mid new (Err refusal) one older same = tt
+
+  pub refused_on : {T : Type 0} (old mid new : SiteState g) (r : Result T ServeNo) → SiteWroteNone setting copy old mid → IsOlder mid.replica.pass.seen new.replica.pass.seen
+      → (IsErrOf r no_serve.Full → log_journal new.log ≡ log_journal mid.log) → (IsErrOf r no_serve.Strange → ⊥) → IfErr r (λ refusal. IsUnwrittenNo refusal → SiteWroteNone setting copy old new)
+  refused_on old mid new (Ok x) one older full never = tt
+  refused_on old mid new (Err no_serve.Down) one older full never = λ none. absurd none
+  refused_on old mid new (Err no_serve.Full) one older full never = λ none. none_on old mid new one (full refl) older
+  refused_on old mid new (Err no_serve.Strange) one older full never = absurd (never refl)
+  refused_on old mid new (Err (no_serve.Short want)) one older full never = λ none. absurd none
 
   -- the same pass, and the same grant in hand
   pub same_pass : (old new : SiteState g) → LeavesNow (log_journal old.log) → new.log ≡ old.log → new.strange ≡ old.strange → new.replica.hand ≡ old.replica.hand → new.replica.pass ≡ old.replica.pass → SiteBecame setting copy None old new
@@ -181,7 +221,7 @@ module _ (setting : Setting) (copy : ℕ) {D : Type 0} {g : Ghosts D} where
   pub nothing_written : (old new : SiteState g) → LeavesNow (log_journal old.log) → new.log ≡ old.log → IsOlder old.replica.pass.seen new.replica.pass.seen → SiteWroteNone setting copy old new
   nothing_written old new law same older =
       none_on old old new
-      (wrote_none old old law refl (started g.view (disk_in old.log) (left_by old.log) (λ c at. (law c).0 at)) (falls_none g.view (disk_in old.log)) ([], refl)) same older
+      (wrote_none old old law refl (started g.view (disk_in old.log) (left_by old.log) (λ c at. (law c).0 at)) (falls_none g.view (disk_in old.log)) ([], refl)) (ap (λ (l : GrantLog D g). log_journal l) same) older
 
   -- a call that wrote nothing was one that might have
   pub asks : (ask : Ask) (old new : SiteState g) → SiteBecame setting copy None old new → SiteBecame setting copy (Some ask) old new

@@ -8,7 +8,7 @@ mod Rows
 mod Backs
 mod Places
 mod Verdicts
-mod Replicas
+pub mod Replicas
 mod Again
 mod Found
 mod Logs

@@ -139,6 +139,24 @@ site_down refusal e is failed =
 pub disk_is_down : {T S : Type 0} (refusal : SiteNo) (e : ServeNo) → e ≡ of_site refusal → IsErrOf {T = S} (Err refusal) Disk → IsErrOf {T = T} (Err e) no_serve.Down
 disk_is_down refusal e is failed = let one : refusal ≡ Disk = cc in ap (λ x. Err x) (is ∙ ap of_site one)
 
+-- a site is strange where its revival says so
+pub strange_site : {T : Type 0} (refusal : SiteNo) (e : ServeNo) → e ≡ of_site refusal → IsErrOf {T = T} (Err e) no_serve.Strange → refusal ≡ Strange
+strange_site refusal e is failed = let one : e ≡ no_serve.Strange = cc in by refusal (sym is ∙ one)
+  where
+    by : (r : SiteNo) → of_site r ≡ no_serve.Strange → r ≡ Strange
+    by Disk at = cc
+    by (Image bad) at = cc
+    by Strange at = refl
+    by (Short want) at = cc
+
+pub strange_is : {T S : Type 0} (refusal : SiteNo) (e : ServeNo) → e ≡ of_site refusal → IsErrOf {T = S} (Err refusal) Strange → IsErrOf {T = T} (Err e) no_serve.Strange
+strange_is refusal e is failed = let one : refusal ≡ Strange = cc in ap (λ x. Err x) (is ∙ ap of_site one)
+
+-- a request is not told so of a site that is not
+pub not_strange : {D T : Type 0} {g : Ghosts D} (new : SiteState g) (r : Result T ServeNo) → IfErr r (ServeSays new) → IsErrOf r no_serve.Strange → (new.strange ≡ true → ⊥) → ⊥
+not_strange new (Ok x) says failed never = absurd cc
+not_strange new (Err e) says failed never = let one : e ≡ no_serve.Strange = cc in never (subst (ServeSays new) one says)
+
 -- a revival is refused for no want of room on the disk
 pub site_not_full : {T : Type 0} (refusal : SiteNo) (e : ServeNo) → e ≡ of_site refusal → IsErrOf {T = T} (Err e) no_serve.Full → ⊥
 site_not_full refusal e is failed = let one : e ≡ no_serve.Full = cc in by refusal (sym is ∙ one)

@@ -10,10 +10,12 @@ use Rattle.qc_event.specs.Base.{Setting}
 use Rattle.qc_event.specs.Wants.{IsWant}
 use Rattle.qc_journal.specs.Journal.{disk_of, limit_of}
 use Rattle.qc_ledger.specs.Runs.{Falls, Leaves, LosesNone}
+use Rattle.qc_ledger.specs.Shelf.{EndsWithin}
 use Rattle.qc_desk.specs.declared.store.Store.{Ghosts as Desk}
 use Rattle.qc_desk.specs.declared.view.View.{View}
 use Rattle.qc_desk.specs.Entries.{IsOlder}
 use Rattle.qc_site.specs.AtDesk.{IsGranted}
+use Rattle.qc_site.specs.Back.{grant_body}
 use Rattle.qc_site.specs.Log.{log_journal}
 use Rattle.qc_site.specs.Replica.{Standing}
 use Rattle.qc_site.specs.Since.{GrantsGrow}
@@ -71,6 +73,12 @@ module _ (setting : Setting) (copy : ℕ) {D : Type 0} {g : Ghosts D} where
 
 -- WHAT IT SAYS
 
+-- that a request was not answered by the desk, of a call that wrote nothing
+abbrev pub IsUnwrittenNo : ServeNo → Type 0
+IsUnwrittenNo no_serve.Full = Unit {0}
+IsUnwrittenNo no_serve.Strange = Unit {0}
+IsUnwrittenNo _ = ⊥
+
 -- A request can be served: the copy is up, with nothing in hand.
 pub record CanServe (standing : Standing) : Type 0 where
   pub up : standing.up ≡ true
@@ -104,6 +112,10 @@ module _ {D : Type 0} {g : Ghosts D} where
   -- what is granted is entered only where its record would not pass the limit
   abbrev pub FitsOrRepeats : Ask → SiteState g → SiteState g → Tuple → Type 0
   FitsOrRepeats ask old new tuple = (new.replica.pass.mine ≡ old.replica.pass.mine) ⊎ (IsTooLongFor old.log ask tuple → ⊥)
+
+  -- the record of a grant of this request ends where the next one would begin, within the limit
+  abbrev pub HasEnded : Ask → SiteState g → Tuple → Type 0
+  HasEnded ask new tuple = EndsWithin (log_journal new.log) (grant_body new.log.copies (grant_with ask tuple))
 
   -- A request was answered: at most the grant in hand was entered, and then the answer's entry; and the seer has seen what it
   -- rests on.

@@ -76,6 +76,15 @@ IsUnwritten (answer.Dead ancestor) = Unit {0}
 IsUnwritten answer.Full = Unit {0}
 IsUnwritten _ = ⊥
 
+-- an answer of a call that wrote nothing
+abbrev pub WritesNone : Answered → Type 0
+WritesNone answer.Strange = Unit {0}
+WritesNone said = IsUnwritten said
+
+-- what a call leaves in hand that may grant what was asked: nothing, what was in hand, or a grant of that
+abbrev pub IsLeftBy : Ask → Option Grant → Option Grant → Type 0
+IsLeftBy ask old new = (new ≡ None) ⊎ (new ≡ old) ⊎ ((tuple : Tuple) × (new ≡ Some (grant_with ask tuple)))
+
 -- memory was wanting, or the history takes no more entries
 abbrev pub IsSiteWant : Past → SiteNo → Type 0
 IsSiteWant past (no_site.Short short) = IsWant past short

@@ -54,8 +54,8 @@ fn fall<D: Disk, N: Store, const C: u8>(log: &GrantLog<D>, replica: &mut Replica
 }
 
 impl<D: Disk, N: Store, const C: u8> Site<D, N, C> {
-    ghost use Rattle.qc_site.specs.Calls.{empty_handed, site_state, SiteBecame, HasServed, ServeSays};
-    ghost use Rattle.qc_site.specs.Sites.{IsFullFor, IsTooLongFor};
+    ghost use Rattle.qc_site.specs.Calls.{empty_handed, site_state, HasEnded, SiteBecame, HasServed, ServeSays};
+    ghost use Rattle.qc_site.specs.Sites.{IsFullFor, IsLeftBy, IsTooLongFor};
 
     // Writes the grant in hand.
     fn write(&mut self, ask: &Ask, tuple: &Tuple) -> Result<(), ServeNo>
@@ -71,6 +71,8 @@ impl<D: Disk, N: Store, const C: u8> Site<D, N, C> {
         ensures up { OnOk result (self.new.replica.up ≡ true) }
         ensures hand { OnOk result (self.new.replica.hand ≡ self.old.replica.hand) }
         ensures journal { OnOk result (IsUp (log_journal self.new.log)) }
+        ensures kept { IsLeftBy ask.now None self.new.replica.hand }
+        ensures within { OnOk result (HasEnded ask.now (site_state self.new) tuple.now) }
         ensures refused { IfErr result (ServeSays (site_state self.new)) }
         ensures pass { self.new.replica.pass ≡ self.old.replica.pass }
         ensures became { SiteBecame (setting_of N.table N.base) C (Some ask.now)
@@ -118,6 +120,8 @@ impl<D: Disk, N: Store, const C: u8> Site<D, N, C> {
             (empty_handed (site_state self.old)) (site_state self.new) (Granted tuple.now)) }
         ensures refused { IfErr result (ServeSays (site_state self.new)) }
         ensures err { OnErr result (self.new.replica.pass.mine ≡ self.old.replica.pass.mine) }
+        ensures left { IsLeftBy ask.now None self.new.replica.hand }
+        ensures within { OnOk result (HasEnded ask.now (site_state self.new) tuple.now) }
         ensures became { SiteBecame (setting_of N.table N.base) C (Some ask.now)
             (empty_handed (site_state self.old)) (site_state self.new) }
         ensures strange { self.new.strange ≡ self.old.strange }

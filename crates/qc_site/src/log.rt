@@ -6,6 +6,7 @@ ghost use Rattle.qc_event.specs.declared.event.Grant.{Grant};
 ghost use Rattle.qc_journal.specs.Journal.{disk_of, limit_of, place_of, IsDown, IsTooLong, IsUp, Keeps};
 ghost use Rattle.qc_journal.specs.declared.fault.Fault.TheVariants.{Full};
 ghost use Rattle.qc_ledger.specs.Runs.{Costs, CostsOnce, Falls, HasOrMore, Leaves, LosesNone};
+ghost use Rattle.qc_ledger.specs.Shelf.{EndsWithin};
 ghost use Rattle.qc_site.specs.Back.{grant_body, IsAnswer, IsPlain};
 
 use crate::back::{BackNo, read_back};
@@ -61,6 +62,8 @@ impl<D: Disk> GrantLog<D> {
             (grant_body (copies_of self.old) grant.now) }
         ensures fits { OnOk result (IsTooLong (place_of (log_journal self.old))
             (limit_of (log_journal self.old)) (grant_body (copies_of self.old) grant.now) → ⊥) }
+        ensures within { OnOk result (EndsWithin (log_journal self.new)
+            (grant_body (copies_of self.old) grant.now)) }
 
         // Where the disk tells its bytes, each image has the record after `Ok`, and may have it where the journal is down.
         ensures over { OnOk result ((before : List (List ℕ)) (given : List Grant)

@@ -1,5 +1,5 @@
 //! How a site serves a request.
-ghost use Rattle.std.specs.Prelude.{◌≡◌, ◌∷◌, ◌↔◌, true, IfOk, IfErr, OnOk, OnErr, IsErrOf, Err, Ok, Some, is_some};
+ghost use Rattle.std.specs.Prelude.{◌≡◌, ◌⊎◌, ◌∷◌, ◌↔◌, true, IfOk, IfErr, OnOk, OnErr, IsErrOf, Err, None, Ok, Some, is_some};
 ghost use Rattle.qc_config.specs.declared.tuple.Tuple.{Tuple};
 ghost use Rattle.qc_event.specs.Grants.{grant_with};
 ghost use Rattle.qc_event.specs.declared.event.Answered.TheVariants.{Down, Full, Granted, Strange};
@@ -58,8 +58,8 @@ fn of_site(no: SiteNo) -> ServeNo
 }
 
 impl<D: Disk, N: Store, const C: u8> Site<D, N, C> {
-    ghost use Rattle.qc_site.specs.Calls.{site_state, SiteBecame, CanServe, FitsOrRepeats, HasServed, ReviveSays, ServeSays, SiteWroteNone};
-    ghost use Rattle.qc_site.specs.Sites.{Differs, EntersHand, IsByLocks, IsFullFor, IsStrangeFor, IsUnwritten};
+    ghost use Rattle.qc_site.specs.Calls.{site_state, SiteBecame, CanServe, FitsOrRepeats, HasEnded, HasServed, IsUnwrittenNo, ReviveSays, ServeSays, SiteWroteNone};
+    ghost use Rattle.qc_site.specs.Sites.{Differs, EntersHand, IsByLocks, IsFullFor, IsLeftBy, IsStrangeFor, IsUnwritten, WritesNone};
 
     /// Is up, with nothing in hand.
     pub(crate) fn rise<R: Wait>(&mut self, rt: &R, desk: &Desk<N>) -> Result<(), SiteNo>
@@ -67,6 +67,8 @@ impl<D: Disk, N: Store, const C: u8> Site<D, N, C> {
         ensures ready { OnOk result (CanServe self.new.replica) }
         ensures refused { IfErr result (ReviveSays (site_state self.new)) }
         ensures enters { EntersHand C self.old.replica self.new.replica }
+        ensures hand { (self.new.replica.hand ≡ None)
+            ⊎ (self.new.replica.hand ≡ self.old.replica.hand) }
         ensures idle { CanServe self.old.replica → (OnErr result ⊥)
             × (self.new.log ≡ self.old.log) × (self.new.replica ≡ self.old.replica) }
         ensures became { SiteBecame (setting_of N.table N.base) C None (site_state self.old)
@@ -108,6 +110,10 @@ impl<D: Disk, N: Store, const C: u8> Site<D, N, C> {
         ensures by_locks { IfOk result IsByLocks }
         ensures refused { IfErr result (ServeSays (site_state self.new)) }
         ensures err { OnErr result (self.new.replica.pass.mine ≡ self.old.replica.pass.mine) }
+        ensures hand { IsLeftBy ask.now None self.new.replica.hand }
+        ensures within { (tuple : Tuple) → result ≡ Ok (Granted tuple)
+            → (self.new.replica.pass.mine ≡ self.old.replica.pass.mine)
+            ⊎ HasEnded ask.now (site_state self.new) tuple }
         ensures again { (tuple : Tuple)
             → IsGranted C self.old.replica.pass.seen (grant_with ask.now tuple)
             → (result ≡ Ok (Granted tuple)) × (self.new.log ≡ self.old.log)
@@ -162,6 +168,17 @@ impl<D: Disk, N: Store, const C: u8> Site<D, N, C> {
         ensures by_locks { IfOk result IsByLocks }
         ensures refused { IfErr result (ServeSays (site_state self.new)) }
         ensures err { OnErr result (EntersHand C self.old.replica self.new.replica) }
+        ensures hand { IsLeftBy ask.now self.old.replica.hand self.new.replica.hand }
+        ensures within { (tuple : Tuple) → result ≡ Ok (Granted tuple)
+            → (EntersHand C self.old.replica self.new.replica)
+            ⊎ HasEnded ask.now (site_state self.new) tuple }
+        ensures wrote_none { IfOk result (λ said. IsUnwritten said
+            → SiteWroteNone (setting_of N.table N.base) C (site_state self.old)
+            (site_state self.new)) }
+        ensures stays { IfErr result (λ refusal. IsUnwrittenNo refusal
+            → SiteWroteNone (setting_of N.table N.base) C (site_state self.old)
+            (site_state self.new)) }
+        ensures strange { (result ≡ Err ServeNo.Strange) ↔ (is_some self.new.strange ≡ true) }
         ensures again { (tuple : Tuple) → CanServe self.old.replica
             → IsGranted C self.old.replica.pass.seen (grant_with ask.now tuple)
             → (result ≡ Ok (Granted tuple)) × (self.new.log ≡ self.old.log)
@@ -247,6 +264,7 @@ impl<D: Disk, N: Store, const C: u8> Site<D, N, C> {
             (HasServed C ask.now seer.new (site_state self.old) (site_state self.new)) }
         ensures refused { IfErr result (IsWant self.new.replica.pass.seen) }
         ensures err { OnErr result (EntersHand C self.old.replica self.new.replica) }
+        ensures hand { IsLeftBy ask.now self.old.replica.hand self.new.replica.hand }
         ensures again { (tuple : Tuple) → CanServe self.old.replica
             → IsGranted C self.old.replica.pass.seen (grant_with ask.now tuple)
             → (result ≡ Ok (Granted tuple)) × (self.new.log ≡ self.old.log)
@@ -257,17 +275,26 @@ impl<D: Disk, N: Store, const C: u8> Site<D, N, C> {
         ensures known { OnOk result
             (LeavesKnown (setting_of N.table N.base) C self.new.replica.pass seer.new) }
 
-        // Full is answered of a request that was found free, whose record would pass the limit. Where the copy could serve,
-        // what is granted anew would not pass it, and a refusal leaves the journal as it was.
+        // Full is answered of a request that was found free, whose record would pass the limit. What is granted anew does not
+        // pass it. A refusal by the locks or for want of room writes nothing, and leaves the journal of a copy that could serve
+        // as it was; nor does a strange copy write.
         ensures full { result ≡ Ok Full → IsFullFor (setting_of N.table N.base) C ask.now
             self.new.replica.pass.seen self.new.log }
         ensures fits { (tuple : Tuple) → CanServe self.old.replica → result ≡ Ok (Granted tuple)
             → FitsOrRepeats ask.now (site_state self.old) (site_state self.new) tuple }
+        ensures within { (tuple : Tuple) → result ≡ Ok (Granted tuple)
+            → (EntersHand C self.old.replica self.new.replica)
+            ⊎ HasEnded ask.now (site_state self.new) tuple }
         ensures unwritten { CanServe self.old.replica → IfOk result (λ said. IsUnwritten said
             → log_journal self.new.log ≡ log_journal self.old.log) }
+        ensures wrote_none { IfOk result (λ said. WritesNone said
+            → SiteWroteNone (setting_of N.table N.base) C (site_state self.old)
+            (site_state self.new)) }
 
         // A strange copy stays so, and answers nothing else; one turns strange for what its disk has in place of what it
         // granted.
+        ensures strange { IfOk result (λ said.
+            (said ≡ Strange) ↔ (is_some self.new.strange ≡ true)) }
         ensures for_good { is_some self.old.strange ≡ true → (IfOk result (λ said. said ≡ Strange))
             × (self.new.strange ≡ self.old.strange) }
         ensures differs { IsStrangeFor (Differs self.old.log

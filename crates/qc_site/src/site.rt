@@ -146,6 +146,7 @@ impl<D: Disk, N: Store, const C: u8> Site<D, N, C> {
         ensures refused { IfErr result (IsSiteWant self.new.replica.pass.seen) }
         ensures enters { EntersHand C self.old.replica self.new.replica }
         ensures up { self.new.replica.up ≡ self.old.replica.up }
+        ensures keeps { OnErr result (self.new.replica.hand ≡ self.old.replica.hand) }
         ensures log { self.new.log ≡ self.old.log }
         ensures strange { self.new.strange ≡ self.old.strange }
         ensures became { SiteBecame (setting_of N.table N.base) C None (site_state self.old)
@@ -161,7 +162,11 @@ impl<D: Disk, N: Store, const C: u8> Site<D, N, C> {
         requires given { given.items ≡ grants self.old.replica.pass.seen C }
         requires up { IsUp (log_journal self.old.log) }
         requires sound { is_some self.old.strange ≡ false }
+        requires down { self.old.replica.up ≡ false }
         ensures ready { OnOk result (CanServe self.new.replica) }
+        ensures down { OnErr result (self.new.replica.up ≡ false) }
+        ensures hand { (self.new.replica.hand ≡ None)
+            ⊎ (self.new.replica.hand ≡ self.old.replica.hand) }
         ensures refused { IfErr result (IsSiteWant self.new.replica.pass.seen) }
         ensures enters { EntersHand C self.old.replica self.new.replica }
         ensures log { self.new.log ≡ self.old.log }
@@ -181,9 +186,13 @@ impl<D: Disk, N: Store, const C: u8> Site<D, N, C> {
         requires proper { IsProper (setting_of N.table N.base) }
         requires down { self.old.replica.up ≡ false }
 
-        // What was entered is at most the grant in hand. A fault of the disk is told exactly where its count of them rose, by
-        // one. A strange copy stays so; one turns strange for what its disk has in place of what it granted.
+        // What was entered is at most the grant in hand. Any refusal leaves it down. A fault of the disk is told exactly where
+        // its count of them rose, by one. A strange copy stays so; one turns strange for what its disk has in place of what it
+        // granted.
         ensures ready { OnOk result (CanServe self.new.replica) }
+        ensures down { OnErr result (self.new.replica.up ≡ false) }
+        ensures hand { (self.new.replica.hand ≡ None)
+            ⊎ (self.new.replica.hand ≡ self.old.replica.hand) }
         ensures refused { IfErr result (ReviveSays (site_state self.new)) }
         ensures enters { EntersHand C self.old.replica self.new.replica }
         ensures became { SiteBecame (setting_of N.table N.base) C None (site_state self.old)

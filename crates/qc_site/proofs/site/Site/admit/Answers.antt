@@ -69,3 +69,6 @@ returns-in_err-append-clause-counts_once g c = record {
 
 pub returns-in_err-append-clause-full : goal.returns-in_err-append-clause-full
 returns-in_err-append-clause-full g c = λ failed. absurd (short_not c.in_err-append.field-0.0 Full c.from_residual-in_err-append.result (λ same. cc) c.from_residual-in_err-append.ensures.1 failed)
+
+pub returns-in_err-append-clause-left : goal.returns-in_err-append-clause-left
+returns-in_err-append-clause-left g c = inr (inr (c.args.tuple.now, c.in_err-append.ensures.kept ∙ c.in_ok-write.ensures.hand ∙ c.requires.hand))

@@ -6,7 +6,7 @@ use Rattle.qc_journal.specs.Journal.{disk_of}
 use Rattle.qc_ledger.proofs.Passes.{sees_on}
 use Rattle.qc_desk.specs.declared.consult.Consulted.TheVariants.{Fresh}
 use Rattle.qc_site.specs.AtDesk.{hand_after, told_entries}
-use Rattle.qc_site.specs.Calls.{empty_handed, site_state, SiteState}
+use Rattle.qc_site.specs.Calls.{empty_handed, site_state, HasEnded, SiteState}
 use Rattle.qc_site.specs.Log.{log_journal}
 use Rattle.qc_site.specs.Sites.{IsTooLongFor}
 use Rattle.qc_site.specs.declared.serve.ServeNo.TheVariants.{Down, Full}
@@ -178,3 +178,21 @@ returns-in_ok-admit-in-Free-clause-fits g c = λ tuple is.
 
 pub returns-in_ok-admit-in-Free-clause-cause : goal.returns-in_ok-admit-in-Free-clause-cause
 returns-in_ok-admit-in-Free-clause-cause g c = record { later = c.in_ok-admit-in-Free.ensures.cause.later; failed = λ failed. absurd cc }
+
+pub returns-in-Again-clause-hand : goal.returns-in-Again-clause-hand
+returns-in-Again-clause-hand g c = inl (c.in_ok-told.ensures.hand ∙ ap (hand_after c.args.ask.now) c.in-Again.is)
+
+pub returns-in-Blocked-clause-hand : goal.returns-in-Blocked-clause-hand
+returns-in-Blocked-clause-hand g c = inl (c.in_ok-told.ensures.hand ∙ ap (hand_after c.args.ask.now) (c.in-Fresh.is ∙ ap (λ x. Fresh x) c.in-Blocked.is))
+
+pub returns-in-Dead-clause-hand : goal.returns-in-Dead-clause-hand
+returns-in-Dead-clause-hand g c = inl (c.in_ok-told.ensures.hand ∙ ap (hand_after c.args.ask.now) (c.in-Fresh.is ∙ ap (λ x. Fresh x) c.in-Dead.is))
+
+pub returns-in-Again-clause-within : goal.returns-in-Again-clause-within
+returns-in-Again-clause-within g c = λ tuple is.
+    inl (c.in_ok-told.ensures.enters ∙ ap (λ x. told_entries g.row.C c.args.ask.now x ++ c.args.self.now.replica.pass.mine) c.in-Again.is)
+
+pub returns-in_ok-admit-in-Free-clause-within : goal.returns-in_ok-admit-in-Free-clause-within
+returns-in_ok-admit-in-Free-clause-within g c = λ tuple is.
+    let same : c.in-Free.tuple ≡ tuple = cc in
+    inr (subst (λ t. HasEnded c.args.ask.now (site_state c.admit.new.self) t) same c.in_ok-admit-in-Free.ensures.within)

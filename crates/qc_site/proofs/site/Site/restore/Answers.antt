@@ -1,4 +1,4 @@
-use Rattle.std.proofs.Common.{refl, sym, ◌∙◌}
+use Rattle.std.proofs.Common.{inr, refl, sym, ◌∙◌}
 use Rattle.std.specs.Prelude.{None}
 use Rattle.qc_event.specs.Tables.{setting_of}
 use Rattle.qc_journal.specs.Journal.{disk_of}
@@ -25,3 +25,6 @@ returns-clause-became g c =
     let law = g.met.D.Disk.leaves_now (disk_of (log_journal mid.log)) in
     became_on setting g.row.C None (site_state c.args.self.now) (site_state mid) _ law c.enter_hand.ensures.became
     (same_pass setting g.row.C (site_state mid) _ law refl refl (c.restore.ensures.hand ∙ sym c.in_ok-enter_hand.ensures.none) c.restore.ensures.pass)
+
+pub returns-in_err-enter_hand-clause-hand : goal.returns-in_err-enter_hand-clause-hand
+returns-in_err-enter_hand-clause-hand g c = inr c.in_err-enter_hand.ensures.keeps

@@ -1,4 +1,4 @@
-use Rattle.std.proofs.Common.{[], refl, sym, subst}
+use Rattle.std.proofs.Common.{[], inl, inr, refl, sym, ap, ◌∙◌, subst}
 use Rattle.std.specs.Prelude.{None, IsErrOf}
 use Rattle.qc_site.specs.declared.fault.SiteNo.TheVariants.{Disk}
 use Rattle.qc_event.specs.Tables.{setting_of}
@@ -55,7 +55,7 @@ returns-clause-wrote_none g c =
     none_on setting g.row.C (site_state c.args.self.now) (site_state mid) (site_state c.restore.new.self)
     (compared setting g.row.C (site_state c.args.self.now) (site_state mid) c.given.new.self (g.met.D.Disk.leaves_now (disk_of (log_journal c.args.self.now.log)))
     c.given.ensures.hand c.given.ensures.looks.same_grants c.given.ensures.looks.older read.content read.any_moment read.falls read.limit read.pass read.over read.plain).1
-    c.restore.ensures.log c.restore.ensures.became.seen
+    (ap (λ l. log_journal l) c.restore.ensures.log) c.restore.ensures.became.seen
 
 pub returns-clause-refused : goal.returns-clause-refused
 returns-clause-refused g c = want_says (site_state c.restore.new.self) c.restore.result c.restore.ensures.refused
@@ -69,3 +69,12 @@ pub returns-clause-counts_once : goal.returns-clause-counts_once
 returns-clause-counts_once g c =
     subst (λ l. CostsOnce (log_journal c.args.self.now.log) (log_journal l) (IsErrOf c.restore.result Disk)) (sym c.restore.ensures.log)
     record { once = c.in_ok-compare.ensures.counts_once.once; spared = λ never. c.in_ok-compare.ensures.counts_once.spared (λ failed. absurd cc) }
+
+pub returns-clause-hand : goal.returns-clause-hand
+returns-clause-hand g c = elim c.restore.ensures.hand [
+  | inl none ↦ inl none
+  | inr same ↦ elim c.compare.ensures.hand [ inl none ↦ inl (same ∙ none) | inr kept ↦ inr (same ∙ kept ∙ c.given.ensures.hand) ]
+]
+
+pub returns-in_err-compare-clause-hand : goal.returns-in_err-compare-clause-hand
+returns-in_err-compare-clause-hand g c = elim c.compare.ensures.hand [ inl none ↦ inl none | inr kept ↦ inr (kept ∙ c.given.ensures.hand) ]

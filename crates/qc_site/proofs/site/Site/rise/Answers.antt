@@ -3,7 +3,7 @@ use Rattle.qc_event.specs.Tables.{setting_of}
 use Rattle.qc_journal.specs.Journal.{disk_of}
 use Rattle.qc_site.specs.Calls.{site_state}
 use Rattle.qc_site.specs.Log.{log_journal}
-use Rattle.qc_site.proofs.Calls.{nothing_written, ready_by}
+use Rattle.qc_site.proofs.Calls.{entered_or_kept, nothing_written, ready_by}
 use Rattle.qc_site.proofs.Refusals.{want_says}
 use Rattle.qc_site.proofs.site.Site.rise.Goals as goal
 
@@ -22,3 +22,6 @@ returns-else-is_up-clause-idle g c = λ ready. let never : true ≡ false = sym 
 pub returns-then-is_up-clause-wrote_none : goal.returns-then-is_up-clause-wrote_none
 returns-then-is_up-clause-wrote_none g c =
     nothing_written (setting_of g.N.Store.table g.N.Store.base) g.row.C _ _ (g.met.D.Disk.leaves_now (disk_of (log_journal c.args.self.now.log))) c.enter_hand.ensures.log c.enter_hand.ensures.became.seen
+
+pub returns-then-is_up-clause-hand : goal.returns-then-is_up-clause-hand
+returns-then-is_up-clause-hand g c = entered_or_kept c.enter_hand.result c.args.self.now.replica.hand c.enter_hand.new.self.replica.hand c.enter_hand.ensures.none c.enter_hand.ensures.keeps

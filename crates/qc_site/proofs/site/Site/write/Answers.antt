@@ -5,6 +5,7 @@ use Rattle.qc_event.specs.History.{grants}
 use Rattle.qc_event.specs.Seats.{copy_seat}
 use Rattle.qc_event.specs.Tables.{setting_of}
 use Rattle.qc_journal.specs.Journal.{IsTooLong, disk_of, limit_of, place_of}
+use Rattle.qc_ledger.specs.Shelf.{EndsWithin}
 use Rattle.qc_ledger.proofs.Logging.{up_by}
 use Rattle.qc_desk.specs.declared.view.View.{View}
 use Rattle.qc_desk.specs.Entries.{IsOlder}
@@ -95,3 +96,15 @@ returns-in-Ok-clause-cause g c = record { later = c.in-Ok.ensures.cause.later; f
 
 pub returns-in-Err-clause-untouched : goal.returns-in-Err-clause-untouched
 returns-in-Err-clause-untouched g c = λ full. write_untouched c.args.self.now.log c.write.new.self c.in-Err.fault c.of_fault.result c.in-Err.ensures.left c.of_fault.ensures full
+
+pub returns-in-Ok-clause-kept : goal.returns-in-Ok-clause-kept
+returns-in-Ok-clause-kept g c = inr (inr (c.args.tuple.now, c.requires.hand))
+
+pub returns-in-Err-clause-kept : goal.returns-in-Err-clause-kept
+returns-in-Err-clause-kept g c = elim c.fall.ensures.either [ inl u ↦ inl u.1 | inr d ↦ inr (inr (c.args.tuple.now, d.1 ∙ c.requires.hand)) ]
+
+pub returns-in-Ok-clause-within : goal.returns-in-Ok-clause-within
+returns-in-Ok-clause-within g c =
+    let journal = log_journal c.write.new.self in
+    subst (λ x. EndsWithin journal (grant_body (copies_of c.write.new.self) x)) c.grant_of.ensures
+    (subst (λ n. EndsWithin journal (grant_body n c.grant_of.result)) (sym c.write.ensures.copies) c.in-Ok.ensures.within)
