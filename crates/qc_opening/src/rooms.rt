@@ -4,11 +4,8 @@ ghost use Rattle.qc_system.specs.Pairs.{pairs_in};
 
 use qc_disk::Disk;
 use qc_pair::Fold;
-use qc_system::{Boxed, Returns};
+use qc_system::{Boxed, MOST_PAIRS, Returns};
 use std::alloc::{AllocError, Global};
-
-/// A store has at most so many pairs of disks: the ledger's, and one for each of sixteen copies.
-const MOST_PAIRS: usize = 17;
 
 /// Empty room for what the pairs of a store may be folded into, and to hand all its disks back.
 #[derive(Drop)]

@@ -1,4 +1,4 @@
--- What a desk tells: whether each top has its end, and that a pass sees more.
+-- What a desk tells: whether each top has its end.
 use Rattle.std.proofs.Common.{◌≡◌, Bool, true, false, [], ◌∷◌, refl, sym, ap, ◌∙◌, subst}
 use mathlib.Core.Bool.{true≢false}
 use Rattle.std.specs.Prelude.{Option, None, Some, is_some, is_none, if◌then◌else◌, option_to_list, find}
@@ -10,10 +10,7 @@ use Rattle.qc_event.specs.History.{Past, Name, start, end, is_child, child_in, c
 use Rattle.qc_event.specs.Standing.{HasEnded, open_child}
 use Rattle.qc_event.proofs.LastNumber.{child_last}
 use Rattle.qc_event.proofs.OneEntry.{some_not_none, start_now, start_stays}
-use Rattle.qc_desk.specs.declared.view.View.{View}
-use Rattle.qc_desk.specs.Calling.{Shown}
-use Rattle.qc_ledger.specs.Entered.{SeesMore}
-use Rattle.qc_refine.proofs.Restoring.FoldedPairs.{settled_ended}
+use Rattle.qc_refine.proofs.Restoring.FoldedPairs.{none_is, settled_ended}
 
 -- what no child that was started passes, none of the children passes
 none_passes : (test : Name → Bool) (past : Past) (n : Name) → ((c : Name) → is_child n c ≡ true → is_some (start past c) ≡ true → test c ≡ false) → find test (children past n) ≡ None
@@ -41,24 +38,9 @@ none_open past ended = none_passes (λ c. is_none (end past c)) past [] (λ c is
     let (number, last) = child_last [] c is in
     some_not_none (end past c) (subst (λ n. is_some (end past n) ≡ true) (sym last) (ended number (subst (λ n. is_some (start past n) ≡ true) last began))))
 
-none_is : (o : Option Name) → is_none o ≡ true → o ≡ None
-none_is None h = refl
-none_is (Some n) h = absurd (true≢false (sym h))
-
 -- what a desk tells
 pub told_ended : (past : Past) (b : Bool) → b ≡ is_none (open_child past []) → b ≡ true → HasEnded past
 told_ended past b told is = settled_ended past (none_is (open_child past []) (sym told ∙ is))
 
 pub told_open : (past : Past) (b : Bool) → b ≡ is_none (open_child past []) → b ≡ false → HasEnded past → ⊥
 told_open past b told is ended = true≢false (sym (told ∙ ap (λ (o : Option Name). is_none o) (none_open past ended)) ∙ is)
-
--- who was shown the history sees more
-pub shown_sees : (v w : View) → Shown v w → SeesMore v w
-shown_sees v w shown = record {
-  older = shown.0;
-  mine = ap (λ (x : View). x.mine) shown.1;
-  number = ap (λ (x : View). x.number) shown.1;
-  live = ap (λ (x : View). x.live) shown.1;
-  out = ap (λ (x : View). x.out) shown.1;
-  kin = ap (λ (x : View). x.kin) shown.1;
-}

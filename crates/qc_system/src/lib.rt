@@ -17,5 +17,5 @@ pub use boxed::Boxed;
 pub use mounting::Mounting;
 pub use others::Others;
 pub use parts::{CopyPair, LedgerPair, Parts};
-pub use returns::Returns;
+pub use returns::{MOST_PAIRS, Returns};
 pub use system::System;

@@ -4,7 +4,7 @@ ghost use Rattle.std.specs.Prelude.{◌≡◌, ◌≤◌, ◌<◌, ◌+◌, ◌+
 use std::alloc::{AllocError, Global};
 
 /// A store has at most so many pairs of disks: the ledger's, and one for each of sixteen copies.
-const MOST_PAIRS: usize = 17;
+pub const MOST_PAIRS: usize = 17;
 
 /// Room to hand the disks of a store back, which takes no memory then: the disks of its pairs, and their spares.
 #[derive(Drop)]

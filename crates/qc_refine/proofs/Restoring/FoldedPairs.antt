@@ -104,7 +104,7 @@ ended_before setting (e ∷ newer) past legal ended copies =
 
 -- WHO LIVES
 
-none_is : (o : Option Name) → is_none o ≡ true → o ≡ None
+pub none_is : (o : Option Name) → is_none o ≡ true → o ≡ None
 none_is None h = refl
 none_is (Some n) h = absurd (true≢false (sym h))
 

@@ -1,11 +1,10 @@
 -- What a fold writes behind how a disk was made is the next base of its pair.
-use Rattle.std.proofs.Common.{◌≡◌, ℕ, ◌<◌, ◌≤◌, ◌^◌, true, List, [], ◌∷◌, length, refl, ap, ◌∙◌, subst, arith}
-use Rattle.std.specs.Prelude.{All, nat_lt}
-use Rattle.std.proofs.lemmas.Bool.{and_from, le-leb, lt-ltb}
+use Rattle.std.proofs.Common.{◌≡◌, ℕ, ◌<◌, ◌^◌, List, [], ◌∷◌, length, ap, ◌∙◌, subst, arith}
+use Rattle.std.specs.Prelude.{All}
 use Rattle.std.proofs.lemmas.List.{length-map}
 use Rattle.std.proofs.lemmas.List.FromFn.{length-map-range_with_len}
 use Rattle.qc_codec.specs.Bodies as body
-use Rattle.qc_codec.specs.Fields.{format_1, long, tuple, word, Layout}
+use Rattle.qc_codec.specs.Fields.{format_1, tuple}
 use Rattle.qc_codec.specs.Form.{Form}
 use Rattle.qc_codec.specs.declared.record.BaseRecord.{BaseRecord}
 use Rattle.qc_config.specs.declared.tuple.Tuple.{Tuple}
@@ -16,18 +15,12 @@ use Rattle.qc_event.specs.Seen.{seen}
 use Rattle.qc_event.specs.Tables.{first_configs, setting_of}
 use Rattle.qc_journal.specs.Image.{HasRecords}
 use Rattle.qc_opening.specs.Pairs.{next_base, IsFolded}
+use Rattle.qc_pair.proofs.Bases.{base_fits}
 use Rattle.qc_pair.specs.Folding as folding
 use Rattle.qc_pair.specs.Front.{base_form, number_in}
 use Rattle.qc_pair.specs.declared.kind.Kind.{Kind}
 use Rattle.qc_pair.specs.declared.kind.Kind.TheVariants as kind
 use Rattle.qc_refine.specs.Folded.{seen_row}
-
--- a base of numbers in range fits its form
-next_fits : (layout : Layout) (b : BaseRecord) → 0 < b.number → b.number ≤ 2 ^ 63 → 0 < b.epoch → b.epoch < 2 ^ 32 → All (tuple layout).fits b.tuples → (body.base layout (length b.tuples)).fits b
-unfolding body.base body.folded word long
-next_fits layout b some last begun small fit =
-    let is_fold : body.is_fold b.number ≡ true = and_from (nat_lt 0 b.number) _ (lt-ltb 0 b.number some) (le-leb b.number (2 ^ 63) last) in
-    (((omega (arith, last), is_fold), ((small, lt-ltb 0 b.epoch begun), (refl, fit))), tt)
 
 -- that of a copy has a tuple for each record
 pub base_of_copy : (table : Table) (base : List (List Tuple)) (past : Past) (copy : ℕ) → body.base (format_1 table.copies) (length (seen_row (setting_of table base) past copy)) ≡ base_form kind.Copy table
@@ -42,7 +35,7 @@ module _ (form : Kind) (table : Table) (found : List (List ℕ)) (epoch : ℕ) (
       let fit_so : All (tuple (format_1 table.copies)).fits tuples = subst (All (tuple (format_1 table.copies)).fits) of_held (subst (λ n. All (tuple (format_1 n)).fits held) of_copies fit) in
       record {
         fits = subst (λ (f : Form BaseRecord). f.fits (next_base form found epoch tuples)) of_form
-            (next_fits (format_1 table.copies) (next_base form found epoch tuples) (omega arith) (omega (arith, low, of_number)) begun small fit_so);
+            (base_fits (format_1 table.copies) (next_base form found epoch tuples) (omega arith) (omega (arith, low, of_number)) begun small fit_so);
         has = subst (λ (f : Form BaseRecord). HasRecords (made ∷ f.spell (next_base form found epoch tuples) ∷ []) image) of_form
             (subst (λ (held : List Tuple). HasRecords (made ∷ folding.next_base table.copies (number_in form found) epoch held ∷ []) image) of_held
             (subst (λ n. HasRecords (made ∷ folding.next_base table.copies n epoch held ∷ []) image) of_number

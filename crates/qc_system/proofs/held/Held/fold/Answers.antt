@@ -14,7 +14,8 @@ use Rattle.qc_site.specs.Checkpoint.{held_by}
 use Rattle.qc_site.specs.Log.{log_journal}
 use Rattle.qc_system.specs.Folds.{base_in, IsFolded}
 use Rattle.qc_system.specs.Kept.{downs}
-use Rattle.qc_system.proofs.Ended.{shown_sees, told_ended, told_open}
+use Rattle.qc_site.proofs.Replicas.{shown_sees}
+use Rattle.qc_system.proofs.Ended.{told_ended, told_open}
 use Rattle.qc_system.proofs.Grown.{left_on}
 use Rattle.qc_system.proofs.HeldRows.{row_held}
 use Rattle.qc_system.proofs.OtherFolds.{folded_other, keeps_still, left_so, next_by, no_room, other_rose, rose_since, site_refused, was_folded}

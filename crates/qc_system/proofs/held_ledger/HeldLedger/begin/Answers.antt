@@ -14,7 +14,8 @@ use Rattle.qc_desk.specs.Known.{IsKnown}
 use Rattle.qc_desk.proofs.Seers.{older_trans}
 use Rattle.qc_journal.specs.Journal.{disk_of}
 use Rattle.qc_system.specs.Kept.{NoRoomForTops, Pays, TopsSince, downs}
-use Rattle.qc_system.proofs.Ended.{shown_sees, told_open}
+use Rattle.qc_site.proofs.Replicas.{shown_sees}
+use Rattle.qc_system.proofs.Ended.{told_open}
 use Rattle.qc_system.proofs.held_ledger.HeldLedger.begin.Goals as goal
 
 pub invariant_of-self : goal.invariant_of-self
