@@ -1,6 +1,7 @@
 """What the scripts on runs over real disks share: the program, scripts, runs over a folder, disks, and a journal's records."""
 import json
 import os
+import resource
 import signal
 import subprocess
 import sys
@@ -10,6 +11,11 @@ PROVED = os.path.join(HOME, "crates/qc_prog/out/qc_prog")
 OPEN = 1
 # What the number of a disk and that of its spare differ by.
 SPARE = 17
+# The mark of a folder in which a run found spares with bytes.
+USED = "spares"
+NOBODY = 65534
+# How a program is started whom permissions stop, which they do not where this is root.
+AS_NOBODY = {"user": NOBODY, "group": NOBODY, "extra_groups": []} if os.geteuid() == 0 else {}
 # The first byte of a base's body.
 BASE = b"\x04"
 
@@ -50,6 +56,17 @@ def run(program, folder, script, **options):
     """The status and the output of a run over a folder."""
     ran = subprocess.run(words(program, folder), input=script.encode(), stdout=subprocess.PIPE, check=False, **options)
     return ran.returncode, ran.stdout.decode()
+
+
+def short_files(most, is_killed=False):
+    """How a run is started whose files may not grow beyond a length, and that is told so, or killed by a signal."""
+
+    def hold():
+        resource.setrlimit(resource.RLIMIT_FSIZE, (most, most))
+        resource.setrlimit(resource.RLIMIT_CORE, (0, 0))
+
+    # The signal for a file that is too long is ignored here, and stays so where it is not restored.
+    return {"preexec_fn": hold, "restore_signals": is_killed}
 
 
 def image_of(folder, disk):
