@@ -9,8 +9,8 @@ NAME = r"[1-9][0-9]*/[1-9][0-9]*(?:\.[1-9][0-9]*)*"
 RECORD = r"[0-9A-Za-z]{1,16}"
 COPY = r"(?:[0-9]|1[0-5])"
 MEMBER = (
-    "script|copies|patience|records|record|name|start|config|votes|read|write|sessions|session|net|fates|hold|tops|body|tries|"
-    "must|steps|step|levels|copy|branches"
+    "script|copies|patience|records|record|name|start|config|votes|read|write|sessions|session|net|fates|hold|tops|"
+    "body|tries|must|steps|step|levels|copy|branches"
 )
 REFUSAL = rf"not json|too long|shape (?:{MEMBER})|limit (?:{MEMBER}) {NUMBER}|config [1-5]|(?:unknown|twice) {RECORD}"
 IMAGE = rf"broken at {NUMBER}|record {NUMBER} grammar|full at {NUMBER}|table|epoch {NUMBER}"

@@ -1,5 +1,5 @@
-"""Scripts that are drawn, and changes of their texts: what bench/hostile hands to the program. Whatever is drawn is drawn
-from the generator that is handed in, so that it can be drawn again."""
+"""Scripts that are drawn, and changes of their texts: what bench/hostile hands to the program. All is drawn from the
+generator that is handed in, so that it can be drawn again."""
 import glob
 import importlib.machinery
 import importlib.util
@@ -32,8 +32,7 @@ def drawn_table(random, most_copies):
     """The copies and records of a script."""
     copies = random.randint(1, most_copies)
     names = random.sample(NAMES, random.randint(1, 3))
-    starts = [random.choice(AMOUNTS) for _ in names]
-    records = [{"name": name, "start": start, "config": drawn_config(random, copies)} for name, start in zip(names, starts)]
+    records = [{"name": it, "start": random.choice(AMOUNTS), "config": drawn_config(random, copies)} for it in names]
     return {"copies": copies, "records": records}
 
 
@@ -124,13 +123,14 @@ def dump(value):
 
 
 NUMBERS = [0, 1, 4, 15, 16, 17, 63, 64, 65, 255, 256, 257, 2**32, 2**63, 2**64 - 1, 2**64, 10**19, 10**20, -1, -(2**64)]
-SPELLED = """-0 1.0 1.5 1e0 1E3 1e400 -1e400 1e-400 0.1e1 18446744073709551615.0 1.8446744073709551615e19 01 00 +1 1. .5 -
-0x10 NaN Infinity tru nulL 'x' "\\ud800" "\\udc00" "\\ud800\\ud800" "\\udc00\\ud800" "\\ud83d\\ude00" "\\u0000" "\\u0078"
-"\\x" "\\u12" "\\ud800\\u0078" "x\\/y" "x\\u0020" "\x7f" "\xe9" "x" x // /**/""".split()
+SPELLED = """-0 1.0 1.5 1e0 1E3 1e400 -1e400 1e-400 0.1e1 18446744073709551615.0 1.8446744073709551615e19 01 00 +1
+1. .5 - 0x10 NaN Infinity tru nulL 'x' "\\ud800" "\\udc00" "\\ud800\\ud800" "\\udc00\\ud800" "\\ud83d\\ude00" "\\u0000"
+"\\u0078" "\\x" "\\u12" "\\ud800\\u0078" "x\\/y" "x\\u0020" "\x7f" "\xe9" "x" x // /**/""".split()
 TEXTS = ["", "x" * 16, "x" * 17, "\xe9" * 8, "a b", "d" * 64, "d" * 65, "d" * 64 + "x", "ddx", "read", "par", "0", "\t"]
-OTHERS = [None, True, False, Members(), [], [[]], [Members()], [1] * 64, [1] * 65, ["x", "x"], Members([("steps", [])])]
+OTHERS = [None, True, False, Members(), [], [[]], [Members()], [1] * 64, [1] * 65, ["x", "x"]]
 LEVELS = [8, 16, 17, 60, 100, 120, 126, 127, 128, 129, 1000, 20000]
-MEMBERS = "copies patience records sessions name start config votes read write net tops fates hold tries must steps".split()
+MEMBERS = """copies patience records sessions name start config votes read write net tops fates hold tries must
+steps""".split()
 STEP_WORDS = [*LEAVES, "child", "par", "reads", "Read", ""]
 
 
@@ -161,7 +161,8 @@ def places_in(value):
 
 
 def renamed(random, name):
-    return random.choice((random.choice(MEMBERS), name.upper(), name + "s", name[:-1], "", Spelled(f'"\\u{ord(name[0]):04x}{name[1:]}"')))
+    escaped = Spelled(f'"\\u{ord(name[0]):04x}{name[1:]}"')
+    return random.choice((random.choice(MEMBERS), name.upper(), name + "s", name[:-1], "", escaped))
 
 
 def change_part(random, tree):
@@ -288,12 +289,8 @@ def large_texts():
 
 
 def odd_texts():
-    """Texts of the longest length and beyond, without and with odd bytes."""
+    """Texts of the longest length and beyond, without and with odd bytes. bench/largest runs the most steps."""
     whole = WHOLE.encode()
-    steps = ",".join(['["read","x"]'] * ((MOST_BYTES - len(WHOLE)) // 13))
-    yield "as many steps as there is room", WHOLE.replace('["read","x"]', steps).encode()
-    tops = ",".join(['{"steps":[]}'] * ((MOST_BYTES - len(WHOLE)) // 13))
-    yield "as many tops as there is room", WHOLE.replace('{"steps":[["read","x"]]}', tops).encode()
     for more in (0, 1, MOST_BYTES):
         yield f"{more} bytes more than the longest", whole.ljust(MOST_BYTES + more)
         yield f"{more} bytes more than the longest, behind spaces", whole.rjust(MOST_BYTES + more)
@@ -302,8 +299,9 @@ def odd_texts():
         yield f"{byte} to the whole length", byte * MOST_BYTES
         yield f"{byte} behind a script", whole + byte
         yield f"{byte} in a name", whole.replace(b'"x"', b'"' + byte + b'"', 1)
-    odd = [b"", b"\xef\xbb\xbf" + whole, whole.decode().encode("utf-16"), b"\xc0\x80", b"\xed\xa0\x80", b"\xf4\x90\x80\x80", b"\xe2\x82"]
-    odd += [rb"\ud800", rb"\udc00", rb"\udc00\ud800", rb"\ud800\ud800", rb"\ud800x", rb"\ud83d\ude00", rb"\u0000", rb"\uD80", rb"\u"]
+    odd = [b"", b"\xef\xbb\xbf" + whole, WHOLE.encode("utf-16"), b"\xc0\x80", b"\xed\xa0\x80", b"\xf4\x90\x80\x80"]
+    odd += [b"\xe2\x82", rb"\ud800", rb"\udc00", rb"\udc00\ud800", rb"\ud800\ud800", rb"\ud800x", rb"\ud83d\ude00"]
+    odd += [rb"\u0000", rb"\uD80", rb"\u"]
     for bytes in odd:
         yield f"{bytes[:12]} alone", bytes
         yield f"{bytes[:12]} as a name", whole.replace(b'"x"', b'"' + bytes[:20] + b'"', 1)

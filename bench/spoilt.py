@@ -1,5 +1,5 @@
-"""Changes of a folder that runs left, what stands in one, and what a refused run leaves of it: what bench/hostile spoils and
-holds. The changes are drawn from the generator that is handed in."""
+"""What stands in a folder, what a run that is refused, or that folds, leaves of it, and changes of one, which are drawn
+from the generator that is handed in: what bench/hostile spoils and holds."""
 import os
 import shutil
 import stat
@@ -26,7 +26,7 @@ def bytes_of(path):
 
 
 def entry_of(path):
-    """What a name in a folder is: its kind and its permissions, and the file's own number, a link's target or what it has."""
+    """A name's kind and permissions, and the number of the file, the target of the link or the names in the folder."""
     about = os.lstat(path)
     if stat.S_ISLNK(about.st_mode):
         return about.st_mode, os.readlink(path)
@@ -36,7 +36,7 @@ def entry_of(path):
 
 
 def file_of(path):
-    """The number of the file that a disk's name leads to: None where it leads to none, and False where nobody can tell."""
+    """The number of the file that a name leads to: None where it leads to none, and False where nobody can tell."""
     try:
         about = os.stat(path)
     except FileNotFoundError:
@@ -47,7 +47,7 @@ def file_of(path):
 
 
 class Folder:
-    """What stands in a folder: by names what they are, by numbers of files their bytes, by disks the numbers of their files."""
+    """What stands in a folder: by its names, by the numbers of its files, and of each disk the number of its file."""
 
     def __init__(self, path):
         self.names = {name: entry_of(os.path.join(path, name)) for name in sorted(os.listdir(path))}
@@ -67,7 +67,7 @@ class Folder:
 
 
 def difference(before, after, wanted):
-    """How a folder differs from what is wanted of it: the names of before and these new files. Nothing where it does not."""
+    """How a folder differs from what is wanted, the names from before and new files, or nothing."""
     for name, entry in before.names.items():
         if after.names.get(name) != entry:
             return f"{name} was {entry}, and is {after.names.get(name)}"
@@ -118,8 +118,7 @@ class Left:
         return self.contents[self.files[disk]]
 
     def is_blank(self, first):
-        """Whether no file has bytes, from a disk on. They are looked at in turn: None where one comes first that nobody can
-        look at."""
+        """Whether no file has bytes from a disk on, or None where one that nobody can look at comes first."""
         for disk in range(first, LAST_SPARE + 1):
             if self.files[disk] is False:
                 return None
@@ -268,7 +267,8 @@ class Spoiler:
         image = bytearray(image)
         for _ in range(self.random.choice((1, 1, 1, 2, 8))):
             if image:
-                image[self.random.randrange(len(image))] = self.random.choice((0, 1, 2, 4, 255, self.random.randrange(256)))
+                byte = self.random.choice((0, 1, 2, 4, 255, self.random.randrange(256)))
+                image[self.random.randrange(len(image))] = byte
         return bytes(image)
 
     def cut(self, image):
@@ -331,6 +331,11 @@ class Spoiler:
         target = self.random.choice([str(disk) for disk in self.disks] + [USED])
         os.symlink(target, way)
 
+    def add_file(self):
+        """Puts bytes in the place of a disk that the store has not."""
+        others = [disk for disk in range(LAST_SPARE + 1) if disk not in self.disks]
+        put(self.way(self.random.choice(others)), self.plain()[1])
+
     def forbid(self):
         way, _ = self.plain()
         if way:
@@ -352,13 +357,14 @@ class Spoiler:
         others |= {"a link to itself": lambda way: os.symlink(os.path.basename(way), way)}
         found = {name: lambda it=it: self.change_content(it) for name, it in content.items()}
         found |= {name: lambda it=it: self.replace(it) for name, it in others.items()}
-        found |= {"exchanged": self.exchange, "forbidden": self.forbid}
+        found |= {"exchanged": self.exchange, "forbidden": self.forbid, "a disk too many": self.add_file}
         return found | {"no mark": lambda: self.put_mark(False), "a folder as mark": lambda: self.put_mark(True)}
 
     def spoil(self):
         """Makes a change that is drawn, and tells its kind."""
         changes = self.changes()
-        often = {"bytes changed": 4, "records changed": 6, "cut": 2, "made longer": 2, "another's bytes": 2}
+        # Most of what is no plain file is refused at once, whatever else was changed.
+        often = {"bytes changed": 8, "records changed": 12, "cut": 3, "made longer": 3, "another's bytes": 3}
         kind = self.random.choices([*changes], [often.get(name, 1) for name in changes])[0]
         changes[kind]()
         return kind
