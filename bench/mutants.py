@@ -5,11 +5,8 @@ import importlib.machinery
 import importlib.util
 import json
 import os
-import sys
 
 from runs import HOME
-
-sys.path.insert(0, os.path.join(HOME, "tools"))
 from script_text import MOST_BYTES
 
 NAMES = ["x", "y", "r10", "Z9", "account1", "a" * 16]
