@@ -130,12 +130,22 @@ class Left:
         """Makes the files of a row that are missing, and the mark where spares are found with bytes."""
         blank = self.is_blank(first)
         if first == SPARE and blank is False and USED not in self.names:
-            self.new[USED] = None
-            self.contents[USED] = b""
+            self.make_mark()
         for disk in range(first, first + self.script.copies + 1):
             if blank and str(disk) not in self.names:
                 self.new[str(disk)] = first
                 self.files[disk], self.contents[str(disk)] = str(disk), b""
+
+    def make_mark(self):
+        """Makes the mark. A link to it that led to nowhere leads to it from then on."""
+        self.new[USED], self.contents[USED] = None, b""
+        for disk, file in self.files.items():
+            if file is None and self.leads_to_mark(str(disk)):
+                self.files[disk] = USED
+
+    def leads_to_mark(self, name):
+        is_link = stat.S_ISLNK(self.names.get(name, (0,))[0])
+        return name == USED or is_link and self.leads_to_mark(self.names[name][1])
 
     def take_back(self):
         """Those that were made go again where the row has no bytes."""
