@@ -4,14 +4,21 @@
 //! is kept on each disk, or lost on each. Each line is printed, and behind it what it asks for:
 //! - `transfer`: a script moves a number from one record to another over disks that stop, and another one reads both over
 //!   what is left. By the calls: the status, whether the transfer was committed, and what was read.
+//! - `second`: a script sets a record from 0 to 5 over disks that stop, another one reads it over what is left, and stops
+//!   too, and does so once more over what is left then. By what is kept or lost the first time and the second: how many
+//!   triples of runs there are, and how many end in which way. What is read last is 5 where the first run committed, and
+//!   else 5 or 0; where the second run read, it is the same.
 #![tactic(auto)]
 
 mod command;
 mod ends;
 mod found;
+mod second;
 mod store;
+mod tally;
 mod transfer;
 
+use second::print_second;
 use std::io;
 use std::sync::Wait;
 use std::thread::Threads;
@@ -22,6 +29,7 @@ fn answer<R: Threads + Wait + Sync>(handle: &R, rt: &HostRuntime, line: &str) ->
     println!(rt; "{line}")?;
     match line {
         "transfer" => print_transfer(handle, rt, rt.alloc()),
+        "second" => print_second(handle, rt, rt.alloc()),
         _ => Ok(()),
     }
 }
