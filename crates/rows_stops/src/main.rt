@@ -8,6 +8,7 @@
 //!   too, and does so once more over what is left then. By what is kept or lost the first time and the second: how many
 //!   triples of runs there are, and how many end in which way. What is read last is 5 where the first run committed, and
 //!   else 5 or 0; where the second run read, it is the same.
+//! - `fold`: the same, but that the first run begins over disks into which an earlier one has folded.
 #![tactic(auto)]
 
 mod command;
@@ -18,7 +19,7 @@ mod store;
 mod tally;
 mod transfer;
 
-use second::print_second;
+use second::{print_fold, print_second};
 use std::io;
 use std::sync::Wait;
 use std::thread::Threads;
@@ -30,6 +31,7 @@ fn answer<R: Threads + Wait + Sync>(handle: &R, rt: &HostRuntime, line: &str) ->
     match line {
         "transfer" => print_transfer(handle, rt, rt.alloc()),
         "second" => print_second(handle, rt, rt.alloc()),
+        "fold" => print_fold(handle, rt, rt.alloc()),
         _ => Ok(()),
     }
 }

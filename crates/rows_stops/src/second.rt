@@ -1,5 +1,6 @@
 //! A run that stops, over what one that stopped left.
 
+use crate::command::run_script;
 use crate::ends::{End, ends_of, read_over};
 use crate::store::Store;
 use crate::tally::Tally;
@@ -87,4 +88,15 @@ pub(crate) fn print_second<R: Threads + Wait + Sync>(
     alloc: Global,
 ) -> io::Result<()> {
     print_over(handle, rt, alloc, &Store::empty(alloc))
+}
+
+/// The same over disks into which a run that read has folded.
+pub(crate) fn print_fold<R: Threads + Wait + Sync>(
+    handle: &R,
+    rt: &HostRuntime,
+    alloc: Global,
+) -> io::Result<()> {
+    let shop = Store::empty(alloc).stop_shop(alloc, u64::MAX)?;
+    let ran = run_script(handle, alloc, READING, shop)?;
+    print_over(handle, rt, alloc, &Store::left(alloc, &ran.disks, true)?)
 }
