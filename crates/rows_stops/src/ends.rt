@@ -38,8 +38,8 @@ impl End {
     }
 }
 
-// What a run came to, where a crash keeps what was not synced, or loses it.
-fn end_of(alloc: Global, ran: &Ran<StopDisk>, kept: bool) -> Result<End, AllocError> {
+/// What a run came to, where a crash keeps what was not synced, or loses it.
+pub(crate) fn end_of(alloc: Global, ran: &Ran<StopDisk>, kept: bool) -> Result<End, AllocError> {
     Ok(End {
         code: ran.status.code(),
         committed: has_committed(&ran.trail),

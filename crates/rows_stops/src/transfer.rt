@@ -1,6 +1,7 @@
 //! A transfer whose disks stop.
 
-use crate::ends::{End, ends_of, read_over};
+use crate::command::run_with;
+use crate::ends::{End, end_of, ends_of, read_over};
 use crate::store::Store;
 use std::alloc::{AllocError, Global};
 use std::io;
@@ -37,6 +38,8 @@ fn told<R: Threads + Wait + Sync>(
     let then = match (next, read.as_slice()) {
         (0, [70, 30]) => "a 70 b 30",
         (0, [100, 0]) if !end.committed => "a 100 b 0",
+        (5, _) => "a write fault",
+        (9, _) => "no memory",
         _ => "WRONG",
     };
     let (code, word) = (end.code, if end.committed { "" } else { "not " });
@@ -97,4 +100,15 @@ pub(crate) fn print_transfer<R: Threads + Wait + Sync>(
     println!(rt; "{calls} stops, and a run without one")?;
     print_spans(rt, "kept", &spans_of(handle, alloc, &ends.kept)?)?;
     print_spans(rt, "lost", &spans_of(handle, alloc, &ends.lost)?)
+}
+
+/// Moves with these options over empty disks that do not stop, and tells what came of it.
+pub(crate) fn told_of_transfer<R: Threads + Wait + Sync>(
+    handle: &R,
+    alloc: Global,
+    options: &str,
+) -> Result<String, AllocError> {
+    let shop = Store::empty(alloc).stop_shop(alloc, u64::MAX)?;
+    let ran = run_with(handle, alloc, options, MOVING, shop)?;
+    told(handle, alloc, &end_of(alloc, &ran, true)?)
 }
