@@ -1,0 +1,10 @@
+//! A ruled queue of requests to one copy: what is taken of a session is what it put, in order, each once.
+#![tactic(auto)]
+
+mod ends;
+mod lane;
+mod queue;
+
+pub use ends::{End, Mailed, Receipt, Stub, Tray};
+pub use lane::{Lane, Posted, Request};
+pub use queue::{LanePass, Queue, close, note, open, put, seat, take, tell};
