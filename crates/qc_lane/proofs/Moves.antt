@@ -9,7 +9,7 @@ use Rattle.crossbeam_queue.proofs.Lists.{at_set, set_again}
 use Rattle.qc_event.specs.declared.event.Ask.{Ask}
 use Rattle.qc_lane.specs.declared.lane.Lane.{Lane}
 use Rattle.qc_lane.specs.declared.lane.Request.{Request}
-use Rattle.qc_lane.specs.Lanes.{of, request, numbered, taker, putter, spent, seated, with_put, with_got, last_from, noted, told, closed, Fits, Kept, Puts, Takes, Balances, IsBounded}
+use Rattle.qc_lane.specs.Lanes.{of, request, numbered, taker, putter, spent, seated, with_put, with_got, last_from, noted, told, closed, freed, reopened, Fits, Kept, Puts, Takes, Balances, IsBounded}
 
 -- REQUESTS
 
@@ -350,6 +350,60 @@ module _ {T : Type 0} (requests : T → List Request) where
           (its.puts p).1,
         );
         takes = λ p. absurd (aside ((its.takes p).0 ∙ sym (mine.takes may).0));
+        known = its.known;
+      }
+
+  pub reopens : (pass : ℕ) (v : Lane) → v.takes ≡ true → v.puts ≡ true → Forks (Kept requests) pass v (freed v) (reopened v)
+  reopens pass v may puts items views h at = (writer, h.1, h.2, h.3, h.4, all_new F (set views pass (freed v)) (reopened v) new (all_set F views pass (freed v) here others))
+    where
+      mine : Fits h.0 h.1 h.2 h.3 pass v
+      mine = h.5 pass v at
+
+      next : ℕ
+      next = length (set views pass (freed v))
+
+      writer : ℕ → Option ℕ
+      writer s = cond (s == v.from) (some next) (h.0 s)
+
+      F : ℕ → Lane → Type 0
+      F = Fits writer h.1 h.2 h.3
+
+      writer_at : (s : ℕ) → ((s ≡ v.from) × (writer s ≡ some next)) ⊎ ((s ≢ v.from) × (writer s ≡ h.0 s) × ((v.from == s) ≡ false))
+      writer_at s = at_one h.0 v.from (some next) s
+
+      new : F next (reopened v)
+      new = record {
+        puts = λ p. (⊎_elim (λ (t : (v.from ≡ v.from) × (writer v.from ≡ some next)). t.1) (λ (t : (v.from ≢ v.from) × (writer v.from ≡ h.0 v.from) × ((v.from == v.from) ≡ false)). absurd (t.0 refl)) (writer_at v.from), (mine.puts puts).1);
+        takes = λ p. absurd (true≢false (sym p));
+        known = mine.known;
+      }
+
+      late : (s : ℕ) → (h.0 s ≡ none) × (h.2 s ≡ []) → (writer s ≡ none) × (h.2 s ≡ [])
+      late s f = (
+        ⊎_elim
+            (λ (t : (s ≡ v.from) × (writer s ≡ some next)). absurd (some-ne-none pass (sym (mine.puts puts).0 ∙ ap h.0 (sym t.0) ∙ f.0)))
+            (λ (t : (s ≢ v.from) × (writer s ≡ h.0 s) × ((v.from == s) ≡ false)). t.1 ∙ f.0)
+            (writer_at s),
+        f.1,
+      )
+
+      here : F pass (freed v)
+      here = record {
+        puts = λ p. absurd (true≢false (sym p));
+        takes = λ p. ((mine.takes p).0, (mine.takes p).1, λ s low. late s ((mine.takes p).2 s low));
+        known = omega arith;
+      }
+
+      others : (j : ℕ) (y : Lane) → j ≢ pass → get_elem? views j ≡ some y → F j y
+      others j y apart e = let its = h.5 j y e in record {
+        puts = λ p. (
+          ⊎_elim
+              (λ (t : (y.from ≡ v.from) × (writer y.from ≡ some next)). absurd (apart (some-injective j pass (sym (its.puts p).0 ∙ ap h.0 t.0 ∙ (mine.puts puts).0))))
+              (λ (t : (y.from ≢ v.from) × (writer y.from ≡ h.0 y.from) × ((v.from == y.from) ≡ false)). t.1 ∙ (its.puts p).0)
+              (writer_at y.from),
+          (its.puts p).1,
+        );
+        takes = λ p. absurd (apart ((its.takes p).0 ∙ sym (mine.takes may).0));
         known = its.known;
       }
 

@@ -60,6 +60,13 @@ told v w = record { puts = v.puts; takes = v.takes; from = v.from; made = v.made
 abbrev pub closed : Lane → Lane → Lane
 closed v w = record { puts = w.puts; takes = v.takes; from = w.from; made = v.made; put = w.put; got = v.got; known = w.known }
 
+-- and what each of the two is again, once they are split
+abbrev pub freed : Lane → Lane
+freed v = record { puts = false; takes = v.takes; from = 0; made = v.made; put = []; got = v.got; known = 0 }
+
+abbrev pub reopened : Lane → Lane
+reopened v = record { puts = v.puts; takes = false; from = v.from; made = 0; put = v.put; got = []; known = v.known }
+
 -- THE RULE
 
 pub record Fits (writer : ℕ → Option ℕ) (reader : ℕ) (sent : ℕ → List Ask) (got : List Request) (pass : ℕ) (v : Lane) : Type 0 where

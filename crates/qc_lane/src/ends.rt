@@ -1,5 +1,5 @@
 //! The ends of a copy's queue, each of which is of the queue that a name says.
-ghost use Rattle.std.specs.Prelude.{◌≡◌, ◌≤◌, ◌+◌, ℕ, List, [], ◌∷◌, ◌++◌, true, length, IfSome, option_to_list};
+ghost use Rattle.std.specs.Prelude.{◌≡◌, ◌≤◌, ◌<◌, ◌+◌, ℕ, List, [], ◌∷◌, ◌++◌, true, length, IfSome, option_to_list};
 ghost use Rattle.crossbeam_queue.specs.Passes.{view};
 ghost use Rattle.qc_event.specs.declared.event.Ask.{Ask};
 ghost use Rattle.qc_lane.specs.declared.lane.Request.{Request};
@@ -7,22 +7,31 @@ ghost use Rattle.qc_lane.specs.Ends.{queue_id, IsLast};
 ghost use Rattle.qc_lane.specs.Lanes.{numbered, of, request};
 
 use crate::lane::{Posted, Request};
-use crate::queue::{LanePass, Queue, close, note, put, take, tell};
+use crate::queue::{LanePass, Queue, note, put, seat, settle, take, tell};
 use qc_event::Ask;
 use std::marker::{Brand, PhantomData};
 use std::sync::Wait;
 use std::thread;
 
-/// Which queue is that of each copy. Each call that names queues picks them.
+/// How many copies have a queue and which it is, and how many sessions put into each. Each call that names queues
+/// picks them.
 pub trait Mailed {
     ghost use Rattle.std.specs.Prelude.{ℕ};
     ghost use Rattle.atomic_table.specs.Seated.{TableId};
+
+    ghost copies: { ℕ };
+
+    ghost sessions: { ℕ };
 
     ghost lanes: { ℕ → TableId };
 }
 
 impl Mailed for Brand {
     ghost use Rattle.qc_lane.specs.Ends.{no_queue};
+
+    ghost copies = { 0 };
+
+    ghost sessions = { 0 };
 
     ghost lanes = { λ _. no_queue };
 }
@@ -37,19 +46,20 @@ pub struct Tray<T: Posted, M: Mailed> {
 
 /// The end of a copy's queue at which requests are taken, with how many were.
 #[derive(Drop)]
-pub struct Stub<T: Posted, M: Mailed> {
+pub struct Outlet<T: Posted, M: Mailed> {
     pub copy: u8,
     pub taken: u64,
     pub pass: LanePass<T>,
     pub of: PhantomData<M>,
     ghost named: { (pass.table_id ≡ M.lanes copy) × (pass.me.1 ≡ []) },
+    ghost within: { copy < M.copies },
     ghost takes: { (view pass).takes ≡ true },
     ghost counted: { taken ≡ length (view pass).got },
 }
 
 /// The end of a copy's queue at which one session puts requests, with how many it put.
 #[derive(Drop)]
-pub struct End<T: Posted, M: Mailed> {
+pub struct Inlet<T: Posted, M: Mailed> {
     pub copy: u8,
     pub session: u8,
     pub sent: u64,
@@ -85,7 +95,26 @@ fn one_more<R: Wait>(rt: &R, count: u64) -> u64
     unreachable!()
 }
 
-impl<T: Posted, M: Mailed> Stub<T, M> {
+impl<T: Posted, M: Mailed> Outlet<T, M> {
+    /// The end of the next session, at which nothing was put.
+    pub fn seat(&mut self, tray: &Tray<T, M>, session: u8) -> Inlet<T, M>
+        requires same { tray.now.copy ≡ self.old.copy }
+        requires next { (view self.old.pass).made ≡ session }
+        ensures outlet { (self.new.copy ≡ self.old.copy)
+            × ((view self.new.pass).got ≡ (view self.old.pass).got) }
+        ensures made { (view self.new.pass).made ≡ session + 1 }
+        ensures inlet { (result.copy ≡ self.old.copy) × (result.session ≡ session) }
+        ensures put { ((view result.pass).put ≡ []) × ((view result.pass).known ≡ 0) }
+    {
+        Inlet {
+            copy: self.copy,
+            session,
+            sent: 0,
+            pass: seat(&tray.queue, &mut self.pass),
+            of: PhantomData,
+        }
+    }
+
     /// Takes the item that was put longest ago, once there is one, and tells the request in it.
     pub fn take<R: Wait>(&mut self, rt: &R, tray: &Tray<T, M>) -> (T, Option<Request>)
         requires same { tray.now.copy ≡ self.old.copy }
@@ -106,7 +135,7 @@ impl<T: Posted, M: Mailed> Stub<T, M> {
     pub fn receipt(&mut self, tray: &Tray<T, M>, request: &Request) -> Receipt<T, M>
         requires same { tray.now.copy ≡ self.old.copy }
         requires last { IsLast (view self.old.pass).got request.now }
-        ensures stub { (self.new.copy ≡ self.old.copy) × (view self.new.pass ≡ view self.old.pass) }
+        ensures outlet { (self.new.copy ≡ self.old.copy) × (view self.new.pass ≡ view self.old.pass) }
         ensures receipt { (result.copy ≡ self.old.copy) × (result.session ≡ request.now.from)
             × (result.number ≡ request.now.number) }
     {
@@ -120,7 +149,7 @@ impl<T: Posted, M: Mailed> Stub<T, M> {
     }
 }
 
-impl<T: Posted, M: Mailed> End<T, M> {
+impl<T: Posted, M: Mailed> Inlet<T, M> {
     /// Puts an item with the session's next request behind all others, once there is room.
     pub fn send<R: Wait>(&mut self, rt: &R, tray: &Tray<T, M>, ask: &Ask, item: T)
         requires same { tray.now.copy ≡ self.old.copy }
@@ -159,19 +188,21 @@ impl<T: Posted, M: Mailed> End<T, M> {
         tell(&tray.queue, &mut self.pass, pass);
     }
 
-    /// Closes the end: what was taken of its session is a beginning of what it sent, in order, each once, and all that it
-    /// knows to be taken is in it.
-    pub fn close(self, tray: &Tray<T, M>, stub: &mut Stub<T, M>)
-        requires same { (tray.now.copy ≡ self.copy) × (stub.old.copy ≡ self.copy) }
-        ensures stub { (stub.new.copy ≡ stub.old.copy)
-            × ((view stub.new.pass).got ≡ (view stub.old.pass).got) }
+    /// Is held against the end that takes: what was taken of its session is a beginning of what it sent, in order, each
+    /// once, and all that it knows to be taken is in it.
+    pub fn settle(&mut self, tray: &Tray<T, M>, outlet: &mut Outlet<T, M>)
+        requires same { (tray.now.copy ≡ self.old.copy) × (outlet.old.copy ≡ self.old.copy) }
+        ensures same { (self.new.copy ≡ self.old.copy) × (self.new.session ≡ self.old.session) }
+        ensures put { ((view self.new.pass).put ≡ (view self.old.pass).put)
+            × ((view self.new.pass).known ≡ (view self.old.pass).known) }
+        ensures outlet { (outlet.new.copy ≡ outlet.old.copy)
+            × ((view outlet.new.pass).got ≡ (view outlet.old.pass).got) }
         ensures beginning { (rest : List Request)
-            × (of self.session (view stub.old.pass).got ++ rest
-            ≡ numbered self.session 0 (view self.pass).put) }
-        ensures known { (view self.pass).known
-            ≤ length (of self.session (view stub.old.pass).got) }
+            × (of self.old.session (view outlet.old.pass).got ++ rest
+            ≡ numbered self.old.session 0 (view self.old.pass).put) }
+        ensures known { (view self.old.pass).known
+            ≤ length (of self.old.session (view outlet.old.pass).got) }
     {
-        let End { pass, .. } = self;
-        close(&tray.queue, &mut stub.pass, pass);
+        settle(&tray.queue, &mut outlet.pass, &mut self.pass);
     }
 }

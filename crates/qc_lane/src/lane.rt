@@ -99,8 +99,16 @@ impl Join<Lane> for Noting {
     ghost spent = { spent };
 }
 
-/// A session's pass is joined into the one that takes.
+/// A session's pass is joined into the one that takes, and split off again.
 pub struct Closing;
+
+impl Split<Lane> for Closing {
+    ghost use Rattle.qc_lane.specs.Lanes.{freed, reopened};
+
+    ghost left = { freed };
+
+    ghost right = { reopened };
+}
 
 impl Join<Lane> for Closing {
     ghost use Rattle.qc_lane.specs.Lanes.{closed, spent};

@@ -5,6 +5,6 @@ mod ends;
 mod lane;
 mod queue;
 
-pub use ends::{End, Mailed, Receipt, Stub, Tray};
+pub use ends::{Inlet, Mailed, Outlet, Receipt, Tray};
 pub use lane::{Lane, Posted, Request};
-pub use queue::{LanePass, Queue, close, note, open, put, seat, take, tell};
+pub use queue::{LanePass, Queue, note, open, put, seat, settle, take, tell};

@@ -2,13 +2,14 @@
 ghost use Rattle.std.specs.Prelude.{◌≡◌, ◌≤◌, ◌<◌, ◌++◌, ℕ, List, [], true, length, map, IfOk};
 ghost use Rattle.crossbeam_queue.specs.Passes.{view, IsPassOf, ruled_capacity};
 ghost use Rattle.qc_lane.specs.declared.lane.Request.{Request};
-ghost use Rattle.qc_lane.specs.Lanes.{numbered, taker, putter, seated, noted, told, closed, of, Puts, Takes, Balances, IsBounded};
+ghost use Rattle.qc_lane.specs.Lanes.{numbered, taker, putter, seated, noted, told, reopened, of, Puts, Takes, Balances, IsBounded};
 
 use crate::lane::{
     Balancing, Bounding, Closing, InOrder, Lane, Noting, Posted, Putting, Seating, Taking,
 };
 use crossbeam_queue::{Pass, RuledArrayQueue};
 use std::alloc::{AllocError, Global};
+use std::mem::replace;
 use std::sync::Wait;
 use std::thread;
 
@@ -97,18 +98,24 @@ pub fn tell<T: Posted>(queue: &Queue<T>, pass: &mut LanePass<T>, note: LanePass<
     queue.learn_as::<Bounding>(pass);
 }
 
-/// A session's pass is joined into the one that takes: what was taken of the session is a beginning of what it put, and
-/// all that it knows to be taken is in it.
-pub fn close<T: Posted>(queue: &Queue<T>, taking: &mut LanePass<T>, pass: LanePass<T>)
-    requires queue { IsPassOf queue.now taking.old × IsPassOf queue.now pass }
+/// A session's pass is held against the one that takes: what was taken of the session is a beginning of what it put,
+/// and all that it knows to be taken is in it.
+pub fn settle<T: Posted>(queue: &Queue<T>, taking: &mut LanePass<T>, pass: &mut LanePass<T>)
+    requires queue { IsPassOf queue.now taking.old × IsPassOf queue.now pass.old }
     requires takes { (view taking.old).takes ≡ true }
-    requires puts { (view pass).puts ≡ true }
-    ensures queue { IsPassOf queue.now taking.new }
-    ensures closed { view taking.new ≡ closed (view taking.old) (view pass) }
-    ensures beginning { (rest : List Request) × (of (view pass).from (view taking.old).got ++ rest
-        ≡ numbered (view pass).from 0 (view pass).put) }
-    ensures known { (view pass).known ≤ length (of (view pass).from (view taking.old).got) }
+    requires puts { (view pass.old).puts ≡ true }
+    ensures queue { IsPassOf queue.now taking.new × IsPassOf queue.now pass.new }
+    ensures taking { ((view taking.new).takes ≡ true)
+        × ((view taking.new).got ≡ (view taking.old).got) }
+    ensures pass { view pass.new ≡ reopened (view pass.old) }
+    ensures beginning { (rest : List Request) × (of (view pass.old).from (view taking.old).got
+        ++ rest ≡ numbered (view pass.old).from 0 (view pass.old).put) }
+    ensures known { (view pass.old).known
+        ≤ length (of (view pass.old).from (view taking.old).got) }
 {
-    queue.absorb::<Closing>(taking, pass);
+    let note = note(queue, taking);
+    let own = replace(pass, note);
+    queue.absorb::<Closing>(taking, own);
     queue.learn_as::<Balancing>(taking);
+    *pass = queue.another::<Closing>(taking);
 }

@@ -1,3 +1,4 @@
 pub mod Serving
 pub mod Once
 pub mod Letters
+pub mod Mails

@@ -1,12 +1,14 @@
 //! Requests to copies and their replies, between threads.
 #![tactic(auto)]
 
+mod delivery;
 mod letter;
-mod post;
+mod mail;
 mod serve;
 mod server;
+mod stub;
 
 pub use letter::{Letter, Reply, Served};
-pub use post::deliver;
+pub use mail::{Mail, Post};
 pub use serve::Serve;
-pub use server::work;
+pub use stub::Stub;

@@ -10,7 +10,7 @@ use crate::serve::Serve;
 use crossbeam_queue::ArrayQueue;
 use qc_desk::{Pass, Store};
 use qc_event::Ask;
-use qc_lane::{Mailed, Request, Stub, Tray};
+use qc_lane::{Mailed, Request, Outlet, Tray};
 use std::sync::Wait;
 use std::thread;
 
@@ -28,15 +28,15 @@ fn serve<N: Store, B: Serve<N>, R: Wait>(rt: &R, to: &B, ask: Ask, note: Pass<N>
 // Takes the next request, with a note that has seen it; none is the word to stop.
 fn next<N: Store, M: Mailed, R: Wait>(
     rt: &R,
-    stub: &mut Stub<Letter<N>, M>,
+    outlet: &mut Outlet<Letter<N>, M>,
     tray: &Tray<Letter<N>, M>,
 ) -> Option<(Request, Pass<N>)>
-    requires same { tray.now.copy ≡ stub.old.copy }
-    ensures same { stub.new.copy ≡ stub.old.copy }
-    ensures last { IfSome result (λ job. IsLast (view stub.new.pass).got job.0) }
+    requires same { tray.now.copy ≡ outlet.old.copy }
+    ensures same { outlet.new.copy ≡ outlet.old.copy }
+    ensures last { IfSome result (λ job. IsLast (view outlet.new.pass).got job.0) }
     ensures seen { IfSome result (λ job. IsSeen (length N.base) job.0 job.1.seen) }
 {
-    let (letter, _request) = stub.take(rt, tray);
+    let (letter, _request) = outlet.take(rt, tray);
     letter.open()
 }
 
@@ -60,22 +60,22 @@ fn give<N: Store, M: Mailed, R: Wait>(
 }
 
 /// Serves the requests in a copy's queue, each reply to its session's, until it takes the word to stop.
-pub fn work<N: Store, M: Mailed, B: Serve<N>, R: Wait>(
+pub(crate) fn work<N: Store, M: Mailed, B: Serve<N>, R: Wait>(
     rt: &R,
-    stub: &mut Stub<Letter<N>, M>,
+    outlet: &mut Outlet<Letter<N>, M>,
     tray: &Tray<Letter<N>, M>,
     replies: &[ArrayQueue<Reply<N, M>>],
     to: &B,
 )
-    requires same { tray.now.copy ≡ stub.old.copy }
-    ensures same { stub.new.copy ≡ stub.old.copy }
+    requires same { tray.now.copy ≡ outlet.old.copy }
+    ensures same { outlet.new.copy ≡ outlet.old.copy }
 {
     for _ in rt.forever() {
-        let Some((request, note)) = next(rt, stub, tray) else {
+        let Some((request, note)) = next(rt, outlet, tray) else {
             return;
         };
         let reply = Reply {
-            receipt: stub.receipt(tray, &request),
+            receipt: outlet.receipt(tray, &request),
             served: serve(rt, to, request.ask, note),
         };
         let from = usize::from(request.from);

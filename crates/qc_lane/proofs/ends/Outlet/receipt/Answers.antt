@@ -1,7 +1,7 @@
 use Rattle.std.proofs.Common.{ap, ◌∙◌}
 use Rattle.crossbeam_queue.specs.Passes.{view}
 use Rattle.qc_lane.proofs.Receipts.{noted_tells}
-use Rattle.qc_lane.proofs.ends.Stub.receipt.Goals as goal
+use Rattle.qc_lane.proofs.ends.Outlet.receipt.Goals as goal
 
 pub invariant_of-result-clause-tells : goal.invariant_of-result-clause-tells
 invariant_of-result-clause-tells g c =

@@ -3,7 +3,7 @@ use Rattle.qc_desk.specs.Consulting.{HasAsked}
 use Rattle.qc_desk.specs.Entries.{IsOlder}
 use Rattle.qc_desk.specs.declared.view.View.{View}
 use Rattle.qc_mail.proofs.Replies.{own_answer, full_too, sees}
-use Rattle.qc_mail.proofs.post.deliver.Goals as goal
+use Rattle.qc_mail.proofs.delivery.deliver.Goals as goal
 
 pub returns-clause-answered : goal.returns-clause-answered
 returns-clause-answered g c =

@@ -1,4 +1,4 @@
-//! A session's way to the copies' servers.
+//! A request goes to its copy's server, and its reply comes back.
 ghost use Rattle.std.specs.Prelude.{◌≡◌, ◌<◌, ◌+◌, [], ◌∷◌, ◌++◌, IfOk, IsErrOf, length};
 ghost use Rattle.crossbeam_queue.specs.Passes.{view};
 ghost use Rattle.qc_event.specs.declared.short.Short.TheVariants.{Room};
@@ -12,7 +12,7 @@ use crate::letter::{Letter, Reply, Served};
 use crossbeam_queue::ArrayQueue;
 use qc_desk::{Desk, Pass, Store};
 use qc_event::{Answered, Ask, Short};
-use qc_lane::{End, Mailed, Request, Tray};
+use qc_lane::{Inlet, Mailed, Request, Tray};
 use std::sync::Wait;
 use std::thread;
 
@@ -44,52 +44,52 @@ fn reply_to<N: Store, M: Mailed, R: Wait>(
     unreachable!()
 }
 
-// Sends a request, and waits for its reply. The end then knows that all its requests were taken.
+// Sends a request, and waits for its reply. The inlet then knows that all its requests were taken.
 fn exchange<N: Store, M: Mailed, R: Wait>(
     rt: &R,
-    end: &mut End<Letter<N>, M>,
+    inlet: &mut Inlet<Letter<N>, M>,
     tray: &Tray<Letter<N>, M>,
     replies: &ArrayQueue<Reply<N, M>>,
     note: Pass<N>,
     ask: &Ask,
 ) -> Served<N>
-    requires same { tray.now.copy ≡ end.old.copy }
+    requires same { tray.now.copy ≡ inlet.old.copy }
     requires copy { ask.now.copy < length N.base }
     requires asked { HasAsked note.seen ask.now }
-    ensures same { (end.new.copy ≡ end.old.copy) × (end.new.session ≡ end.old.session) }
-    ensures put { (view end.new.pass).put ≡ (view end.old.pass).put ++ ask.now ∷ [] }
-    ensures taken { (view end.new.pass).known ≡ length (view end.new.pass).put }
+    ensures same { (inlet.new.copy ≡ inlet.old.copy) × (inlet.new.session ≡ inlet.old.session) }
+    ensures put { (view inlet.new.pass).put ≡ (view inlet.old.pass).put ++ ask.now ∷ [] }
+    ensures taken { (view inlet.new.pass).known ≡ length (view inlet.new.pass).put }
     ensures access { result.ask.access ≡ ask.now.access }
 {
     let request = Request {
-        from: end.session,
-        number: end.sent,
+        from: inlet.session,
+        number: inlet.sent,
         ask: *ask,
     };
-    end.send(rt, tray, ask, Letter::of(request, note));
-    let reply = reply_to(rt, replies, end.copy, &request);
+    inlet.send(rt, tray, ask, Letter::of(request, note));
+    let reply = reply_to(rt, replies, inlet.copy, &request);
     let Reply { receipt, served } = reply;
-    end.accept(tray, receipt);
+    inlet.accept(tray, receipt);
     served
 }
 
 /// Sends a request to its copy's server, and waits for the reply. The seer has then seen what the answer rests on, and the
-/// end knows that all requests of its session were taken.
-pub fn deliver<N: Store, M: Mailed, R: Wait>(
+/// inlet knows that all requests of its session were taken.
+pub(crate) fn deliver<N: Store, M: Mailed, R: Wait>(
     rt: &R,
-    end: &mut End<Letter<N>, M>,
+    inlet: &mut Inlet<Letter<N>, M>,
     tray: &Tray<Letter<N>, M>,
     replies: &ArrayQueue<Reply<N, M>>,
     desk: &Desk<N>,
     seer: &mut Pass<N>,
     ask: &Ask,
 ) -> Result<Answered, Short>
-    requires same { tray.now.copy ≡ end.old.copy }
+    requires same { tray.now.copy ≡ inlet.old.copy }
     requires copy { ask.now.copy < length N.base }
     requires asked { HasAsked seer.old.seen ask.now }
-    ensures same { (end.new.copy ≡ end.old.copy) × (end.new.session ≡ end.old.session) }
-    ensures put { (view end.new.pass).put ≡ (view end.old.pass).put ++ ask.now ∷ [] }
-    ensures taken { (view end.new.pass).known ≡ length (view end.new.pass).put }
+    ensures same { (inlet.new.copy ≡ inlet.old.copy) × (inlet.new.session ≡ inlet.old.session) }
+    ensures put { (view inlet.new.pass).put ≡ (view inlet.old.pass).put ++ ask.now ∷ [] }
+    ensures taken { (view inlet.new.pass).known ≡ length (view inlet.new.pass).put }
     ensures answered { IfOk result (HasAnswered ask.now.copy seer.new.seen ask.now) }
     ensures room { IsErrOf result Room → length seer.new.seen ≡ limit }
     ensures seer { SeesMore seer.old seer.new }
@@ -100,7 +100,7 @@ pub fn deliver<N: Store, M: Mailed, R: Wait>(
         answer,
         mut note,
         ..
-    } = exchange(rt, end, tray, replies, note, ask);
+    } = exchange(rt, inlet, tray, replies, note, ask);
     desk.show(rt, &mut note, seer);
     answer
 }
