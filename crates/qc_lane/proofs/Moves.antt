@@ -28,7 +28,7 @@ numbered_append : (s k : ℕ) (xs ys : List Ask) (n : ℕ) → n ≡ k + length 
 numbered_append s k [] ys n e = ap (λ (i : ℕ). numbered s i ys) (omega (arith, e))
 numbered_append s k (x ∷ xs) ys n e = ap (λ (l : List Request). request s k x ∷ l) (numbered_append s (k + 1) xs ys n (omega (arith, e)))
 
-length_numbered : (s k : ℕ) (asks : List Ask) → length (numbered s k asks) ≡ length asks
+pub length_numbered : (s k : ℕ) (asks : List Ask) → length (numbered s k asks) ≡ length asks
 length_numbered s k [] = refl
 length_numbered s k (a ∷ more) = ap suc (length_numbered s (k + 1) more)
 

@@ -37,6 +37,7 @@ impl Mailed for Brand {
 }
 
 /// The queue of a copy.
+#[derive(Drop)]
 pub struct Tray<T: Posted, M: Mailed> {
     pub copy: u8,
     pub queue: Queue<T>,

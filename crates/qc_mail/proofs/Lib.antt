@@ -1,2 +1,6 @@
 pub mod Replies
 pub mod Numbers
+pub mod Numbering
+pub mod Whole
+pub mod Made
+pub mod Held

@@ -21,8 +21,13 @@ module _ {X : Type 0} (xs : List X) (i : ℕ) where
   pub map_kept : {Y : Type 0} (f : X → Y) (x y : X) → x ≡ get_or xs i x → f y ≡ f x → map f (set xs i y) ≡ map f xs
   map_kept f x y at same = map-set_same f xs i y x (same ∙ ap f at)
 
-  at_place : (P : X → Type 0) (x : X) → i < length xs → x ≡ get_or xs i x → All P xs → P x
+  pub at_place : (P : X → Type 0) (x : X) → i < length xs → x ≡ get_or xs i x → All P xs → P x
   at_place P x within at all = subst P (sym at) (All-get_or P xs i x within all)
+
+  -- what a list of numbers, one of each, has at the number
+  pub told_at : (told : X → ℕ) (copy : ℕ) (x : X) → i < length xs → i ≡ copy → x ≡ get_or xs i x → told x ≡ get_or (map told xs) copy 0
+  told_at told copy x within same at =
+      ap told at ∙ sym (get_or-map told xs i x 0 within) ∙ ap (λ (k : ℕ). get_or (map told xs) k 0) same
 
   pub all_same : (number : X → ℕ) (n : ℕ) (x y : X) → i < length xs → x ≡ get_or xs i x → number y ≡ number x → All (λ e. number e ≡ n) xs → All (λ e. number e ≡ n) (set xs i y)
   all_same number n x y within at same all =

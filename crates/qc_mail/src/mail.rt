@@ -18,6 +18,7 @@ use qc_lane::{Inlet, Mailed, Posted, Tray};
 use std::sync::Wait;
 
 /// The queues of all copies, and those of the sessions' replies, each at its number.
+#[derive(Drop)]
 pub struct Mail<N: Store, M: Mailed>
 where
     Letter<N>: Posted,

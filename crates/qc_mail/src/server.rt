@@ -10,7 +10,7 @@ use crate::serve::Serve;
 use crossbeam_queue::ArrayQueue;
 use qc_desk::{Pass, Store};
 use qc_event::Ask;
-use qc_lane::{Mailed, Request, Outlet, Tray};
+use qc_lane::{Mailed, Outlet, Request, Tray};
 use std::sync::Wait;
 use std::thread;
 
