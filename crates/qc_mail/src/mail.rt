@@ -44,8 +44,8 @@ where
 }
 
 impl<N: Store, M: Mailed> Mail<N, M> {
-    // A copy's queue.
-    pub(crate) fn tray(&self, copy: u8) -> &Tray<Letter<N>, M>
+    /// A copy's queue.
+    pub fn tray(&self, copy: u8) -> &Tray<Letter<N>, M>
         requires served { copy < M.copies }
         ensures { result.now.copy ≡ copy }
     {
