@@ -121,8 +121,10 @@ impl<T: Posted, M: Mailed> Outlet<T, M> {
         requires same { tray.now.copy ≡ self.old.copy }
         ensures copy { self.new.copy ≡ self.old.copy }
         ensures item { T.requests result.0 ≡ option_to_list result.1 }
-        ensures got { (view self.new.pass).got ≡ (view self.old.pass).got ++ option_to_list result.1 }
-        ensures number { IfSome result.1 (λ r. r.number ≡ length (of r.from (view self.old.pass).got)) }
+        ensures got { (view self.new.pass).got
+            ≡ (view self.old.pass).got ++ option_to_list result.1 }
+        ensures number { IfSome result.1
+            (λ r. r.number ≡ length (of r.from (view self.old.pass).got)) }
     {
         let item = take(rt, &tray.queue, &mut self.pass);
         let request = item.request();
@@ -136,7 +138,8 @@ impl<T: Posted, M: Mailed> Outlet<T, M> {
     pub fn receipt(&mut self, tray: &Tray<T, M>, request: &Request) -> Receipt<T, M>
         requires same { tray.now.copy ≡ self.old.copy }
         requires last { IsLast (view self.old.pass).got request.now }
-        ensures outlet { (self.new.copy ≡ self.old.copy) × (view self.new.pass ≡ view self.old.pass) }
+        ensures outlet { (self.new.copy ≡ self.old.copy)
+            × (view self.new.pass ≡ view self.old.pass) }
         ensures receipt { (result.copy ≡ self.old.copy) × (result.session ≡ request.now.from)
             × (result.number ≡ request.now.number) }
     {

@@ -2,7 +2,8 @@
 ghost use Rattle.std.specs.Prelude.{◌≡◌, ◌≤◌, ◌<◌, ◌++◌, ℕ, List, [], true, length, map, IfOk};
 ghost use Rattle.crossbeam_queue.specs.Passes.{view, IsPassOf, ruled_capacity};
 ghost use Rattle.qc_lane.specs.declared.lane.Request.{Request};
-ghost use Rattle.qc_lane.specs.Lanes.{numbered, taker, putter, seated, noted, told, reopened, of, Puts, Takes, Balances, IsBounded};
+ghost use Rattle.qc_lane.specs.Lanes.{numbered, taker, putter, seated, noted, told, reopened, of};
+ghost use Rattle.qc_lane.specs.Lanes.{Puts, Takes, IsBounded};
 
 use crate::lane::{
     Balancing, Bounding, Closing, InOrder, Lane, Noting, Posted, Putting, Seating, Taking,

@@ -13,11 +13,11 @@ use Rattle.qc_mail.specs.Serving.{HasAnswered}
 given_coded : Coded (Option Given)
 given_coded = hlevel codes
 
-pub answered_once : (copy : ℕ) (past : Past) (ask : Ask) (r : Result Answered Short) → IsProp (IfOk r (HasAnswered copy past ask))
-answered_once copy past ask (Ok (answer.Granted tuple)) = Coded-set given_coded _ _
-answered_once copy past ask (Ok (answer.Blocked holder)) = hlevel
-answered_once copy past ask (Ok (answer.Dead ancestor)) = hlevel
-answered_once copy past ask (Ok answer.Down) = hlevel props
-answered_once copy past ask (Ok answer.Full) = hlevel props
-answered_once copy past ask (Ok answer.Strange) = hlevel props
-answered_once copy past ask (Err short) = hlevel
+pub once : (copy : ℕ) (past : Past) (ask : Ask) (r : Result Answered Short) → IsProp (IfOk r (HasAnswered copy past ask))
+once copy past ask (Ok (answer.Granted tuple)) = Coded-set given_coded _ _
+once copy past ask (Ok (answer.Blocked holder)) = hlevel
+once copy past ask (Ok (answer.Dead ancestor)) = hlevel
+once copy past ask (Ok answer.Down) = hlevel props
+once copy past ask (Ok answer.Full) = hlevel props
+once copy past ask (Ok answer.Strange) = hlevel props
+once copy past ask (Err short) = hlevel

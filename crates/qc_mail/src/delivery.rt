@@ -73,8 +73,8 @@ fn exchange<N: Store, M: Mailed, R: Wait>(
     served
 }
 
-/// Sends a request to its copy's server, and waits for the reply. The seer has then seen what the answer rests on, and the
-/// inlet knows that all requests of its session were taken.
+/// Sends a request to its copy's server, and waits for the reply. The seer has then seen what the answer rests on, and
+/// the inlet knows that all requests of its session were taken.
 pub(crate) fn deliver<N: Store, M: Mailed, R: Wait>(
     rt: &R,
     inlet: &mut Inlet<Letter<N>, M>,

@@ -3,7 +3,7 @@ ghost use Rattle.std.specs.Prelude.{◌≡◌, ◌<◌, IfOk, IfSome, IsErrOf, N
 ghost use Rattle.qc_mail.specs.Letters.{IsSeen};
 ghost use Rattle.qc_event.specs.declared.short.Short.TheVariants.{Room};
 ghost use Rattle.qc_event.specs.History.{limit};
-ghost use Rattle.qc_mail.specs.Once.{answered_once};
+ghost use Rattle.qc_mail.specs.Once.{once};
 ghost use Rattle.qc_mail.specs.Serving.{HasAnswered};
 ghost use Rattle.qc_desk.specs.Consulting.{HasAsked};
 
@@ -88,7 +88,7 @@ pub struct Served<N: Store> {
     pub answer: Result<Answered, Short>,
     pub note: Pass<N>,
     ghost asked: { HasAsked note.seen ask },
-    ghost answered: { IfOk answer (HasAnswered ask.copy note.seen ask) } by { answered_once ask.copy note.seen ask answer },
+    ghost answered: { IfOk answer (HasAnswered ask.copy note.seen ask) } by { once ask.copy note.seen ask answer },
     ghost room: { IsErrOf answer Room → length note.seen ≡ limit },
 }
 

@@ -128,8 +128,8 @@ impl<N: Store> Unnamed<N> {
         })
     }
 
-    /// The mail, a post for each session and a stub for each copy, in the order of their numbers. Nothing was sent yet. An
-    /// error is want of memory.
+    /// The mail, a post for each session and a stub for each copy, in the order of their numbers. Nothing was sent yet.
+    /// An error is want of memory.
     pub fn name<M: Mailed>(
         self,
         alloc: Global,

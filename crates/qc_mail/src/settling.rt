@@ -41,8 +41,8 @@ fn settle_post<N: Store, M: Mailed>(
 }
 
 impl<N: Store, M: Mailed> Mail<N, M> {
-    /// Closes the mail. What each of the stubs took of the session of each of the posts is what the post sent to its copy, in
-    /// its order, each once.
+    /// Closes the mail. What each of the stubs took of the session of each of the posts is what the post sent to its
+    /// copy, in its order, each once.
     pub fn close(self, posts: Vec<Post<N, M>>, stubs: Vec<Stub<N, M>>)
         ensures { All (λ p. All (HasAll p.session (map (λ e. put_at e.pass) p.ends.items))
             (map (λ s. taken_at s.outlet.copy s.outlet.pass) stubs.items)) posts.items }

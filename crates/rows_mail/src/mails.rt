@@ -111,7 +111,7 @@ fn deliver_and_stop<N: Store, M: Mailed, R: Wait>(
     (seen, Some(post))
 }
 
-// The session looks for a reply, and says the word to stop. Its post does not come back: not all that it sent was accepted.
+// The session looks for a reply, and says the word to stop. Its post does not come back: it took in no receipt.
 fn look_and_stop<N: Store, M: Mailed, R: Wait>(
     rt: &R,
     mail: &Mail<N, M>,

@@ -1,8 +1,8 @@
-//! Rows of a mail. A copy that is down has its server in a thread of its own, over a queue from one session. `down`: the
-//! session delivers two requests and says the word to stop; then what they were answered is printed, and how many
-//! requests the server took. `looks`: the session sends a request, and then does nothing but look into its reply queue,
-//! at most 1,000,000 times, each time letting others go first; then whether a reply came is printed, and the same
-//! number. Other lines are printed as they are.
+//! Rows of a mail. A copy that is down has its server in a thread of its own, over a queue from one session. `down`:
+//! the session delivers two requests and says the word to stop; then what they were answered is printed, and how many
+//! requests the server took. `looks`: the session sends a request, and then does nothing but look into its reply
+//! queue, at most 1,000,000 times, each time letting others go first; then whether a reply came is printed, and the
+//! same number. Other lines are printed as they are.
 #![tactic(auto)]
 
 ghost use Rattle.std.specs.Prelude.{◌≡◌, IfSome};
