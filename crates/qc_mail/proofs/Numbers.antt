@@ -8,10 +8,13 @@ use Rattle.std.proofs.Math.Seq.{map-set_same}
 use Rattle.qc_event.specs.declared.event.Ask.{Ask}
 use Rattle.qc_mail.specs.Mails.{with_sent}
 
+pub as_many : {X : Type 0} (xs : List X) (number : X → ℕ) (n : ℕ) → map number xs ≡ range_with_len 0 n → length xs ≡ n
+as_many xs number n is = sym (length-map xs number) ∙ ap length is ∙ length-range_with_len 0 n
+
 module _ {X : Type 0} (xs : List X) (i : ℕ) where
   pub reaches : (number : X → ℕ) (n copy : ℕ) → map number xs ≡ range_with_len 0 n → i ≡ copy → copy < n → i < length xs
   reaches number n copy is same within =
-      omega (arith, same, within, sym (length-map xs number) ∙ ap length is ∙ length-range_with_len 0 n)
+      omega (arith, same, within, as_many xs number n is)
 
   pub number_is : (number : X → ℕ) (n copy : ℕ) (x : X) → map number xs ≡ range_with_len 0 n → i ≡ copy → copy < n → x ≡ get_or xs i x → number x ≡ copy
   number_is number n copy x is same within at =

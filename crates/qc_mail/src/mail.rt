@@ -1,5 +1,5 @@
 //! The queues of all copies, and a session's ends of them.
-ghost use Rattle.std.specs.Prelude.{◌≡◌, ◌<◌, IfOk, IsErrOf, length, map, All};
+ghost use Rattle.std.specs.Prelude.{◌≡◌, ◌<◌, true, IfOk, IsErrOf, length, map, All};
 ghost use Rattle.std.specs.List.{range_with_len};
 ghost use Rattle.qc_event.specs.declared.short.Short.TheVariants.{Room};
 ghost use Rattle.qc_event.specs.History.{limit};
@@ -54,6 +54,13 @@ impl<N: Store, M: Mailed> Mail<N, M> {
 }
 
 impl<N: Store, M: Mailed> Post<N, M> {
+    /// Whether it has an end of a copy's queue.
+    pub fn has(&self, copy: u8) -> bool
+        ensures { result ≡ true → copy < M.copies }
+    {
+        usize::from(copy) < self.ends.len()
+    }
+
     /// Sends a request to its copy's server, and waits for the reply. The seer has then seen what the answer rests on.
     pub fn deliver<R: Wait>(
         &mut self,
