@@ -1,5 +1,5 @@
 //! The queues of all copies, and a session's ends of them.
-ghost use Rattle.std.specs.Prelude.{◌≡◌, ◌<◌, true, IfOk, IsErrOf, length, map, All};
+ghost use Rattle.std.specs.Prelude.{◌≡◌, ◌<◌, IfOk, IsErrOf, length, map, nat_lt, All};
 ghost use Rattle.std.specs.List.{range_with_len};
 ghost use Rattle.qc_event.specs.declared.short.Short.TheVariants.{Room};
 ghost use Rattle.qc_event.specs.History.{limit};
@@ -56,7 +56,7 @@ impl<N: Store, M: Mailed> Mail<N, M> {
 impl<N: Store, M: Mailed> Post<N, M> {
     /// Whether it has an end of a copy's queue.
     pub fn has(&self, copy: u8) -> bool
-        ensures { result ≡ true → copy < M.copies }
+        ensures { result ≡ nat_lt copy M.copies }
     {
         usize::from(copy) < self.ends.len()
     }
