@@ -6,7 +6,7 @@ use Rattle.qc_moss.specs.Locks.{Table, unheld}
 use Rattle.qc_moss.proofs.Tables.{starts}
 use Rattle.qc_desk.specs.declared.view.View.{View}
 use Rattle.qc_desk.specs.Rules.{IsSplit, pass}
-use Rattle.rows_desk.specs.OneCopy.{start}
+use Rattle.rows_request.specs.OneCopy.{start}
 use Rattle.rows_desk.proofs.Tops.{low, next_low}
 
 pub locks_start : (first then last ledger copy : View) (table : Table) → first ≡ pass 0 [] → IsSplit first then ledger → IsSplit then last copy → table ≡ unheld start → TableFollows copy.seen (grants copy.seen 0) table

@@ -1,8 +1,5 @@
 pub mod Tops
 pub mod Children
-pub mod OwnAccess
-pub mod Asking
-pub mod OneCopy
 pub mod Calls
 pub mod Replying
 pub mod Granting

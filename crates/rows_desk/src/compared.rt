@@ -4,13 +4,14 @@ ghost use Rattle.qc_event.specs.History.{grants};
 ghost use Rattle.qc_moss.specs.Follows.{TableFollows};
 ghost use Rattle.qc_moss.specs.Locks.{unheld};
 ghost use Rattle.qc_desk.specs.Rules.{IsClient};
-ghost use Rattle.rows_desk.specs.OneCopy as words;
+ghost use Rattle.rows_request.specs.OneCopy as words;
 
-use crate::scene::{grant_of, one_request, start_scene};
+use crate::scene::{grant_of, start_scene};
 use qc_config::{Config, Tuple};
 use qc_desk::{Blank, Consulted, Desk, DeskNo, Pass, Store};
 use qc_event::{Grant, Short};
 use qc_moss::{Locks, Verdict};
+use rows_request::one_request;
 use std::alloc::Global;
 use std::marker::Brand;
 use std::sync::Wait;

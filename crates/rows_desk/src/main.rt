@@ -8,7 +8,7 @@
 #![tactic(auto)]
 
 ghost use Rattle.std.specs.Prelude.{◌≡◌, IfSome};
-ghost use Rattle.rows_desk.specs.OneCopy as words;
+ghost use Rattle.rows_request.specs.OneCopy as words;
 
 mod clients;
 mod compared;
@@ -26,7 +26,8 @@ use qc_config::{Config, Tuple};
 use qc_desk::DeskNo;
 use qc_event::{Base, Entry, Event, Grant, Kind};
 use refusals::{Refusals, run_refusals};
-use scene::{one_vote, play_scene};
+use rows_request::one_vote;
+use scene::play_scene;
 use std::alloc::Global;
 use std::io;
 use std::sync::Wait;

@@ -1,3 +1,1 @@
-pub mod OneCopy
-pub mod Asking
 pub mod IsDown

@@ -3,15 +3,15 @@ ghost use Rattle.std.specs.Prelude.{◌≡◌, map};
 ghost use Rattle.std.specs.List.{range_with_len};
 ghost use Rattle.qc_lane.specs.Ends.{queue_id};
 ghost use Rattle.qc_desk.specs.Rules.{IsClient};
-ghost use Rattle.rows_mail.specs.OneCopy as words;
+ghost use Rattle.rows_request.specs.OneCopy as words;
 
 use crate::downs::{CopyPass, Downs};
-use crate::requests::one_request;
 use crossbeam_queue::ArrayQueue;
 use qc_desk::{Blank, Desk, DeskNo, Pass, Store};
 use qc_event::Answered;
 use qc_lane::{Inlet, Mailed, Request};
 use qc_mail::{Letter, Mail, Post, Reply, Serve, Stub, Unnamed};
+use rows_request::one_request;
 use std::alloc::{AllocError, Global};
 use std::marker::Brand;
 use std::sync::{Mutex, Wait};
@@ -49,9 +49,9 @@ fn deliver_two<N: Store, M: Mailed, R: Wait>(
     requires over { (N.table ≡ words.table) × (N.base ≡ words.base) }
     requires copies { M.copies ≡ 1 }
 {
-    let ask = one_request(rt, desk, pass)?;
+    let (_, ask) = one_request(rt, desk, pass)?;
     let one = post.deliver(rt, mail, desk, pass, &ask)?;
-    let ask = one_request(rt, desk, pass)?;
+    let (_, ask) = one_request(rt, desk, pass)?;
     let two = post.deliver(rt, mail, desk, pass, &ask)?;
     Ok(Seen::Answers(one, two))
 }
@@ -81,7 +81,7 @@ fn send_and_look<N: Store, M: Mailed, R: Wait>(
     requires copy { end.old.copy ≡ 0 }
     ensures copy { end.new.copy ≡ 0 }
 {
-    let ask = one_request(rt, desk, pass)?;
+    let (_, ask) = one_request(rt, desk, pass)?;
     let note = desk.note(pass);
     let request = Request {
         from: end.session,

@@ -13,7 +13,8 @@ mod requests;
 
 use mails::{Seen, Told, play};
 use qc_event::Answered;
-use requests::{one_copy, one_vote};
+use requests::one_copy;
+use rows_request::one_vote;
 use std::alloc::Global;
 use std::io;
 use std::sync::Wait;

@@ -8,7 +8,7 @@ use Rattle.qc_desk.specs.declared.view.View.{View}
 use Rattle.qc_desk.specs.Consulting.{IsTold}
 use Rattle.qc_desk.specs.declared.consult.Consulted.TheVariants.{Fresh}
 use Rattle.qc_desk.specs.Entries.{IsOlder}
-use Rattle.rows_desk.proofs.OneCopy.{may_append}
+use Rattle.rows_request.proofs.OneCopy.{may_append}
 use Rattle.rows_desk.proofs.Granting.{reserved_follows, reserved_start, follows_granted}
 use Rattle.rows_desk.proofs.compared.grant_next.Goals as goal
 

@@ -1,4 +1,4 @@
-use Rattle.rows_desk.specs.OneCopy.{table}
+use Rattle.rows_request.specs.OneCopy.{table}
 use Rattle.rows_desk.proofs.compared.run_compared.Given as goal
 
 abbrev pub ghosts-compared_at : goal.ghosts-compared_at

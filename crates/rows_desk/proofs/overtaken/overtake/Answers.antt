@@ -14,8 +14,8 @@ use Rattle.qc_desk.specs.declared.consult.Consulted.TheVariants.{Fresh}
 use Rattle.qc_desk.specs.Entries.{IsOlder}
 use Rattle.qc_desk.specs.Refusing.{against_nothing}
 use Rattle.qc_desk.proofs.Entering.{started_later}
-use Rattle.rows_desk.proofs.OneCopy.{may_append}
-use Rattle.rows_desk.proofs.OwnAccess.{own_shown}
+use Rattle.rows_request.proofs.OneCopy.{may_append}
+use Rattle.rows_request.proofs.OwnAccess.{own_shown}
 use Rattle.rows_desk.proofs.Replying.{shown_on, granted_is, may_reply}
 use Rattle.rows_desk.proofs.overtaken.overtake.Goals as goal
 

@@ -1,4 +1,4 @@
-use Rattle.rows_desk.specs.OneCopy.{table}
+use Rattle.rows_request.specs.OneCopy.{table}
 use Rattle.rows_desk.proofs.overtaken.run_overtaken.Given as goal
 
 abbrev pub ghosts-overtaken_at : goal.ghosts-overtaken_at

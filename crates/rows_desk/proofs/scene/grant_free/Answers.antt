@@ -6,7 +6,7 @@ use Rattle.qc_moss.specs.Follows.{TableFollows}
 use Rattle.qc_desk.specs.Consulting.{IsTold}
 use Rattle.qc_desk.specs.declared.consult.Consulted.TheVariants.{Fresh}
 use Rattle.qc_desk.specs.Entries.{IsOlder}
-use Rattle.rows_desk.proofs.OneCopy.{may_append}
+use Rattle.rows_request.proofs.OneCopy.{may_append}
 use Rattle.rows_desk.proofs.scene.grant_free.Goals as goal
 
 pub consult-requires-clause-follows : goal.consult-requires-clause-follows

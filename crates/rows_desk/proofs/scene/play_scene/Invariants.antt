@@ -1,4 +1,4 @@
-use Rattle.rows_desk.specs.OneCopy.{table}
+use Rattle.rows_request.specs.OneCopy.{table}
 use Rattle.rows_desk.proofs.scene.play_scene.Given as goal
 
 abbrev pub ghosts-play_named : goal.ghosts-play_named

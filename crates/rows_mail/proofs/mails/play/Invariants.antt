@@ -1,4 +1,4 @@
-use Rattle.rows_mail.specs.OneCopy.{table}
+use Rattle.rows_request.specs.OneCopy.{table}
 use Rattle.rows_mail.proofs.mails.play.Given as goal
 
 abbrev pub ghosts-play_desk : goal.ghosts-play_desk

@@ -25,7 +25,7 @@ use Rattle.qc_event.specs.Requests.{IsNextAsk}
 use Rattle.qc_event.specs.Tables.{setting_of}
 use Rattle.qc_desk.specs.Entries.{AreOthers, IsOlder, IsSince}
 use Rattle.qc_desk.proofs.OwnSince.{stage_of, replies_by, has_by}
-use Rattle.rows_desk.specs.OneCopy.{config, start, base, table}
+use Rattle.rows_request.specs.OneCopy.{config, start, base, table}
 
 abbrev pub setting : Setting
 setting = setting_of table base

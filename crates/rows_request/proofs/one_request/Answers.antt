@@ -1,9 +1,9 @@
 use Rattle.std.proofs.Common.{arith}
 use Rattle.qc_event.specs.Tables.{setting_of}
-use Rattle.rows_desk.proofs.Asking.{stands_below, may_request, is_request}
-use Rattle.rows_desk.proofs.OneCopy.{over_is}
+use Rattle.rows_request.proofs.Asking.{stands_below, may_request, is_request}
+use Rattle.rows_request.proofs.OneCopy.{over_is}
 use Rattle.qc_desk.proofs.AskedTops.{may_be_ready}
-use Rattle.rows_desk.proofs.scene.one_request.Goals as goal
+use Rattle.rows_request.proofs.one_request.Goals as goal
 
 pub start-requires-2-clause-stands : goal.start-requires-2-clause-stands
 start-requires-2-clause-stands g c =

@@ -1,4 +1,5 @@
--- A manager that has just started may ask the one copy, through an access that has just started.
+-- A manager that has just started may ask the one copy, through an access that has just started; and then no grant of
+-- it stands but that copy's.
 use Rattle.std.proofs.Common.{◌≡◌, ℕ, ◌+◌, ◌<◌, Bool, [], ◌∷◌, ◌++◌, length, refl, sym, ap, ◌∙◌, subst, arith}
 use Rattle.std.specs.Prelude.{Option, None, Some, MatchOption, IsTrue, find, is_some, is_none, if◌then◌else◌}
 use Rattle.std.specs.Option.{option_or, option_map}
@@ -9,7 +10,7 @@ use Rattle.qc_event.specs.declared.event.Event.{Event}
 use Rattle.qc_event.specs.declared.event.Event.TheVariants as event
 use Rattle.qc_event.specs.declared.event.Kind.TheVariants as kind
 use Rattle.qc_event.specs.Base.{Setting}
-use Rattle.qc_event.specs.History.{Past, Name, Asked, Begun, same, start, start_in, end, asked, ask_in, asks, is_child}
+use Rattle.qc_event.specs.History.{Past, Name, Asked, Begun, same, start, start_in, end, asked, ask_in, asks, granted, is_child}
 use Rattle.qc_event.specs.Legal.{Legal}
 use Rattle.qc_event.specs.Manager.{stage, AtStage}
 use Rattle.qc_event.specs.Requests.{IsNextAsk, MayAsk}
@@ -21,17 +22,21 @@ use Rattle.qc_event.proofs.LastNumber.{front_last}
 use Rattle.qc_event.proofs.StillTold.{is_stays}
 use Rattle.qc_desk.specs.declared.refusal.DeskNo.{DeskNo}
 use Rattle.qc_desk.specs.declared.view.View.{View}
-use Rattle.qc_desk.specs.Consulting.{HasAsked}
 use Rattle.qc_desk.specs.Calling.{Entered, EnteredAs}
-use Rattle.qc_desk.specs.Entries.{entry}
-use Rattle.qc_desk.specs.Refusing.{against_nothing, against_child}
-use Rattle.qc_desk.specs.Own.{IsMine, MayAskOwn}
+use Rattle.qc_desk.specs.Entries.{IsOlder, entry}
+use Rattle.qc_desk.specs.Refusing.{against_nothing, against_child, against_access}
+use Rattle.qc_desk.specs.Own.{IsMine, IsOwnAccess, MayAskOwn}
 use Rattle.qc_desk.specs.Rules.{IsClient}
 use Rattle.qc_desk.proofs.Calls as calls
-use Rattle.qc_desk.proofs.NewChild.{IsNext, IsChild, child_of, begun, is_child_of, long, still_open, not_asked, no_asks, same_asks}
-use Rattle.rows_mail.proofs.OneCopy.{at_first}
-use Rattle.rows_mail.proofs.OneCopy as one_copy
-use Rattle.qc_desk.proofs.AskedTops.{IsTop, may_be_ready}
+use Rattle.qc_desk.proofs.Seers.{older_trans}
+use Rattle.qc_desk.proofs.NewChild.{IsNext, IsChild, child_of, begun, is_child_of, long, still_open, not_asked, no_asks, same_asks, granted_none}
+use Rattle.rows_request.specs.OneCopy.{IsRequest}
+use Rattle.rows_request.proofs.OwnAccess.{own_asked}
+use Rattle.rows_request.proofs.OneCopy.{at_first}
+use Rattle.rows_request.proofs.OneCopy as one_copy
+use Rattle.qc_desk.proofs.AskedTops.{IsTop, entered_as_later, entered_later, may_be_ready, top_started}
+
+-- THE REQUEST
 
 module _ (setting : Setting) (seat : ℕ) (p m a : Name) (rec : ℕ) (v w x : View)
     (manager : IsChild setting seat p (kind.Read rec) v w m) (access : IsChild setting seat m kind.Access w x a) where
@@ -64,6 +69,8 @@ module _ (setting : Setting) (seat : ℕ) (p m a : Name) (rec : ℕ) (v w x : Vi
       here : start x.seen ask.access ≡ Some (record { seat = seat; kind = kind.Access })
       here = ap (start x.seen) is ∙ begun setting seat m kind.Access w x a access
 
+-- WHAT WAS ASKED
+
 module _ (setting : Setting) (against : Past → Option DeskNo) (v w : View) (ask : Ask) (asks : Entered against (event.Ask ask) v w) (legal : Legal setting w.seen) where
   abbrev was : Past
   was = asks.0
@@ -83,6 +90,12 @@ module _ (setting : Setting) (against : Past → Option DeskNo) (v w : View) (as
       ap (λ past. asked past ask.access) seen
       ∙ ap (λ o. option_or o (ask_in ask.access v.number (event.Ask ask))) may.not_asked
       ∙ ap (λ (b : Bool). if b then Some (record { seat = v.number; ask = ask }) else None) (same_itself ask.access)
+
+  -- it was granted nothing
+  pub granted_nothing : granted w.seen ask.access ≡ None
+  granted_nothing = ap (λ past. granted past ask.access) seen ∙ ap (λ o. option_or o None) (granted_none setting was ask.access here.0 may.not_asked)
+
+-- A CLIENT'S WAY TO A REQUEST
 
 pub number_as : (against : Past → Option DeskNo) (Is : Past → Event → Type 0) (v w : View) → EnteredAs against Is v w → w.number ≡ v.number
 number_as against Is v w (before, ev, is, since, none, same) = ap (λ (x : View). x.number) same
@@ -124,6 +137,28 @@ may_request s is epoch top manager access u v w x t m a legal_v legal_w legal_x 
     own_request s is top manager v w m legal_w (omega (arith, one)) access x a legal_x
     (subst (λ n. IsTrue (is_client n)) (sym (same_number epoch top manager access u v w x t m a)) (calls.client u client))
 
--- what was asked stands
-pub has_asked : (s : Setting) (against : Past → Option DeskNo) (v w : View) (ask : Ask) → Entered against (event.Ask ask) v w → Legal s w.seen → HasAsked w.seen ask
-has_asked s against v w ask asks legal = ap (option_map (λ (a : Asked). a.ask)) (asked_is s against v w ask asks legal)
+-- what stands then
+pub is_request : (s : Setting) (epoch : ℕ) (top manager access : Name) (u v w x y : View) → EnteredAs against_nothing (IsTop epoch 0 0 top) u v → StartsManager top manager v w → StartsAccess manager access w x
+    → Entered (against_access access) (event.Ask (request access)) x y → Legal s v.seen → MayAskOwn s x.seen x.number (name.front access) (request access) → Legal s y.seen → IsRequest y.seen u.number top (request access) × IsOlder u.seen y.seen
+is_request s epoch top manager access u v w x y t m a q legal_v may legal_y = (
+  record {
+    begun = ap (λ p. start p top) later.1 ∙ is_stays (λ e. start_in top e.seat e.event) later.0 v.seen (record { seat = u.number; kind = kind.User 0 0 }) (top_started s epoch 0 0 u v top t legal_v);
+    asked = ap (option_map (λ (a : Asked). a.ask)) asked_here;
+    to_copy = refl;
+    of_record = refl;
+    ungranted = granted_nothing s (against_access access) x y (request access) q legal_y;
+    own = subst (λ n. IsOwnAccess y.seen n access) number (own_asked s (against_access access) x y (request access) (name.front access) q legal_y may);
+    asked_here = subst (λ o. MatchOption o ⊥ (λ (a : Asked). a.seat ≡ u.number)) (sym asked_here) number;
+  },
+  older_trans u.seen v.seen y.seen (entered_as_later against_nothing (IsTop epoch 0 0 top) u v t) later,
+)
+  where
+    number : x.number ≡ u.number
+    number = same_number epoch top manager access u v w x t m a
+
+    later : IsOlder v.seen y.seen
+    later = older_trans v.seen w.seen y.seen (entered_as_later (against_child top) (IsNext top (kind.Read 0) manager) v w m)
+        (older_trans w.seen x.seen y.seen (entered_as_later (against_child manager) (IsNext manager kind.Access access) w x a) (entered_later (against_access access) (event.Ask (request access)) x y q))
+
+    asked_here : asked y.seen access ≡ Some (record { seat = x.number; ask = request access })
+    asked_here = asked_is s (against_access access) x y (request access) q legal_y

@@ -1,0 +1,3 @@
+pub mod OneCopy
+pub mod OwnAccess
+pub mod Asking
