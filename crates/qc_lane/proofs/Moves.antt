@@ -68,6 +68,16 @@ longer s xs ys k h = rw (filter-append (λ (r : Request). r.from == s) xs ys) (o
 at_one : {A : Type 0} (f : ℕ → A) (n : ℕ) (x : A) (s : ℕ) → ((s ≡ n) × (cond (s == n) x (f s) ≡ x)) ⊎ ((s ≢ n) × (cond (s == n) x (f s) ≡ f s) × ((n == s) ≡ false))
 at_one f n x s = grind arith
 
+-- a session that had no writer, and sent nothing, has none where another one's is changed
+none_still : (writer : ℕ → Option ℕ) (sent : ℕ → List Ask) (from to holder : ℕ) → writer from ≡ some holder → (s : ℕ) → (writer s ≡ none) × (sent s ≡ []) → (cond (s == from) (some to) (writer s) ≡ none) × (sent s ≡ [])
+none_still writer sent from to holder held s f = (
+  ⊎_elim
+      (λ (t : (s ≡ from) × (cond (s == from) (some to) (writer s) ≡ some to)). absurd (some-ne-none holder (sym held ∙ ap writer (sym t.0) ∙ f.0)))
+      (λ (t : (s ≢ from) × (cond (s == from) (some to) (writer s) ≡ writer s) × ((from == s) ≡ false)). t.1 ∙ f.0)
+      (at_one writer from (some to) s),
+  f.1,
+)
+
 -- the request of a session is among those of the session
 pub kept : (r : Request) (l : List Request) → of r.from (r ∷ l) ≡ r ∷ of r.from l
 kept r l = rw (same_number r.from) refl
@@ -324,19 +334,10 @@ module _ {T : Type 0} (requests : T → List Request) where
         known = omega arith;
       }
 
-      late : (s : ℕ) → (h.0 s ≡ none) × (h.2 s ≡ []) → (writer s ≡ none) × (h.2 s ≡ [])
-      late s f = (
-        ⊎_elim
-            (λ (t : (s ≡ u.from) × (writer s ≡ some pass)). absurd (some-ne-none other (sym (theirs.puts puts).0 ∙ ap h.0 (sym t.0) ∙ f.0)))
-            (λ (t : (s ≢ u.from) × (writer s ≡ h.0 s) × ((u.from == s) ≡ false)). t.1 ∙ f.0)
-            (writer_at s),
-        f.1,
-      )
-
       here : F pass (closed v u)
       here = record {
         puts = λ p. (⊎_elim (λ (t : (u.from ≡ u.from) × (writer u.from ≡ some pass)). t.1) (λ (t : (u.from ≢ u.from) × (writer u.from ≡ h.0 u.from) × ((u.from == u.from) ≡ false)). absurd (t.0 refl)) (writer_at u.from), (theirs.puts puts).1);
-        takes = λ p. ((mine.takes p).0, (mine.takes p).1, λ s low. late s ((mine.takes p).2 s low));
+        takes = λ p. ((mine.takes p).0, (mine.takes p).1, λ s low. none_still h.0 h.2 u.from pass other (theirs.puts puts).0 s ((mine.takes p).2 s low));
         known = theirs.known;
       }
 
@@ -378,19 +379,10 @@ module _ {T : Type 0} (requests : T → List Request) where
         known = mine.known;
       }
 
-      late : (s : ℕ) → (h.0 s ≡ none) × (h.2 s ≡ []) → (writer s ≡ none) × (h.2 s ≡ [])
-      late s f = (
-        ⊎_elim
-            (λ (t : (s ≡ v.from) × (writer s ≡ some next)). absurd (some-ne-none pass (sym (mine.puts puts).0 ∙ ap h.0 (sym t.0) ∙ f.0)))
-            (λ (t : (s ≢ v.from) × (writer s ≡ h.0 s) × ((v.from == s) ≡ false)). t.1 ∙ f.0)
-            (writer_at s),
-        f.1,
-      )
-
       here : F pass (freed v)
       here = record {
         puts = λ p. absurd (true≢false (sym p));
-        takes = λ p. ((mine.takes p).0, (mine.takes p).1, λ s low. late s ((mine.takes p).2 s low));
+        takes = λ p. ((mine.takes p).0, (mine.takes p).1, λ s low. none_still h.0 h.2 v.from next pass (mine.puts puts).0 s ((mine.takes p).2 s low));
         known = omega arith;
       }
 
