@@ -7,6 +7,7 @@ use crate::file::{FileDisk, remove_empty};
 use std::alloc::Global;
 use std::fs;
 use std::io::ErrorKind;
+use std::os::unix::fs::MetadataExt;
 
 /// How many disks a set has: a ledger's and those of sixteen copies. So `0` to `16` are one set, and their spares, the
 /// next seventeen numbers, another.
@@ -76,6 +77,15 @@ fn are_new_spares(
     }
 }
 
+// Whether a path leads to the mark of a folder, which is no disk: a link that led nowhere may, once there is a mark.
+fn is_mark(rt: &HostRuntime, alloc: Global, place: &str, path: &str) -> Result<bool, DiskNo> {
+    let mark = format!(in alloc; "{place}/{USED}")?;
+    match (fs::metadata(rt, mark.as_str()), fs::metadata(rt, path)) {
+        (Ok(mark), Ok(found)) => Ok(found.dev() == mark.dev() && found.ino() == mark.ino()),
+        _ => Ok(false),
+    }
+}
+
 impl FileSet {
     /// Looks at the set of a disk.
     pub(crate) fn look(
@@ -114,6 +124,9 @@ impl FileSet {
         let place = self.place.as_str();
         let path = format!(in alloc; "{place}/{which}")?;
         let opened = match fs::symlink_metadata(&self.rt, path.as_str()) {
+            Ok(_) if is_mark(&self.rt, alloc, place, path.as_str())? => {
+                Err(ErrorKind::InvalidInput.into())
+            }
             Ok(_) => FileDisk::find(&self.rt, place, path.as_str()),
             Err(error) if error.kind() == ErrorKind::NotFound && self.is_new => {
                 self.made.reserve(1)?;

@@ -145,10 +145,10 @@ impl Disk for StopDisk {
 
     fn write_at(&mut self, at: u64, bytes: &[u8]) -> Result<(), DiskNo>
         requires { at ≤ length (stop_bytes self.old) }
-        ensures written { OnOk result (Some (stop_bytes self.new) ≡ option_map (written at bytes.now)
-            (Some (stop_bytes self.old))) }
-        ensures size { OnOk result (length (stop_bytes self.new) ≡ max (length (stop_bytes self.old))
-            (at + length bytes.now)) }
+        ensures written { OnOk result (Some (stop_bytes self.new)
+            ≡ option_map (written at bytes.now) (Some (stop_bytes self.old))) }
+        ensures size { OnOk result (length (stop_bytes self.new)
+            ≡ max (length (stop_bytes self.old)) (at + length bytes.now)) }
         ensures failed { IsErrOf result DiskNo.Failed
             → Steps (Torn at (length bytes.now)) (Some (stop_bytes self.old))
             (Some (stop_bytes self.new)) }
