@@ -1,5 +1,5 @@
 //! What branches run by.
-use crate::gate::Mode;
+use crate::mode::Mode;
 use std::alloc::Global;
 
 /// The runtime, the memory for lists of branches, and whether branches run in threads.

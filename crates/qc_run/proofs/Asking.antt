@@ -3,7 +3,7 @@ use Rattle.std.proofs.Common.{ℕ, ◌≡◌, List, refl, sym, subst, inl, inr}
 use Rattle.std.specs.Prelude.{None, Some}
 use Rattle.qc_disk.specs.Disk.{DiskView}
 use Rattle.qc_disk.specs.Shop.{ShopView as Shop}
-use Rattle.qc_interp.specs.declared.gate.Mode.{Mode}
+use Rattle.qc_interp.specs.declared.mode.Mode.{Mode}
 use Rattle.qc_io.specs.Io.{SinkView, SourceView}
 use Rattle.qc_script.specs.MadePlan.{made_plan}
 use Rattle.qc_run.specs.Left.{HadNoScript, HasAudited, IsAnswerToMaking, IsAnswerToSource, IsAnswerToWords, IsEarly, IsUnread}

@@ -2,8 +2,8 @@
 use Rattle.std.specs.Prelude.{ℕ, ◌≡◌, ◌==◌, ◌<◌, ◌^◌, ◌⊎◌, Bool, true, false, not, IsTrue, is_none, List, [], ◌∷◌, ◌++◌, codes, if◌then◌else◌, Option, None, Some}
 use Rattle.std.specs.Fmt.{decimal}
 use Rattle.std.specs.Option.{option_map_or}
-use Rattle.qc_interp.specs.declared.gate.Mode.{Mode}
-use Rattle.qc_interp.specs.declared.gate.Mode.TheVariants.{Serial, Threads}
+use Rattle.qc_interp.specs.declared.mode.Mode.{Mode}
+use Rattle.qc_interp.specs.declared.mode.Mode.TheVariants.{Serial, Threads}
 use Rattle.qc_run.specs.declared.finishing.Form.{Form}
 use Rattle.qc_run.specs.declared.finishing.Form.TheVariants.{Report, Trail}
 

@@ -14,9 +14,9 @@ mod spelling;
 mod status;
 mod words;
 
-pub use process::start;
+pub use process::{start, start_behind};
 pub use program::run;
-pub use qc_interp::{Gate, NoGate};
+pub use qc_gate::{Gate, NoGate, Walker};
 pub use qc_io as io;
 pub use qc_script::{BadScript, Member};
 pub use ran::Ran;

@@ -6,7 +6,7 @@ ghost use Rattle.qc_run.specs.FaultLine.{exit_code};
 use crate::program::run;
 use crate::status::Status;
 use qc_disk::HomeShop;
-use qc_interp::NoGate;
+use qc_gate::{Gate, NoGate};
 use qc_io::{StdSink, StdSource};
 use std::alloc::{AllocError, Global};
 use std::env;
@@ -31,17 +31,18 @@ fn ended(status: &Status) -> ExitCode
     ExitCode::from(status.code())
 }
 
-/// Does what the program's words say over the standard streams and the real shop, and tells how it ended.
-/// The handle is that of the runtime, which alone may wait and make threads.
-pub fn start<R: Threads + Wait + Sync>(handle: &R, rt: HostRuntime) -> ExitCode {
+/// Does what words say over the standard streams and the real shop, behind a gate, and tells how it ended. The handle is that
+/// of the runtime, which alone may wait and make threads.
+pub fn start_behind<R: Threads + Wait + Sync, G: Gate + Sync>(
+    handle: &R,
+    rt: HostRuntime,
+    words: &[String],
+    gate: &G,
+) -> ExitCode {
     let alloc = rt.alloc();
-    let Ok(words) = words(&rt, alloc) else {
-        return ended(&Status::Memory);
-    };
     let mut source = StdSource::new(rt.stdin());
     let mut sink = StdSink::new(rt.stdout());
     let mut shop = HomeShop::new(rt);
-    let words = words.as_slice();
     let ran = run(
         handle,
         alloc,
@@ -49,7 +50,15 @@ pub fn start<R: Threads + Wait + Sync>(handle: &R, rt: HostRuntime) -> ExitCode 
         &mut source,
         &mut sink,
         &mut shop,
-        &NoGate,
+        gate,
     );
     ended(&ran.status)
+}
+
+/// Does what the program's words say, behind an open gate.
+pub fn start<R: Threads + Wait + Sync>(handle: &R, rt: HostRuntime) -> ExitCode {
+    let Ok(words) = words(&rt, rt.alloc()) else {
+        return ended(&Status::Memory);
+    };
+    start_behind(handle, rt, words.as_slice(), &NoGate)
 }

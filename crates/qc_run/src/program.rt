@@ -28,7 +28,7 @@ use crate::refusing::refuse;
 use crate::status::Status;
 use crate::words::{Command, command_of};
 use qc_disk::Shop;
-use qc_interp::Gate;
+use qc_gate::Gate;
 use qc_opening::one_verdict;
 use std::alloc::Global;
 use std::sync::Wait;
@@ -78,10 +78,11 @@ where
 /// the source, runs its sessions over the copies of its records, whose disks it obtains, each with a spare, from
 /// the shop at the place that `--dir` names, by a network that loses, delays and repeats requests as the script
 /// says, and writes the report, or with `--trail` the saved trail. Sessions run in threads of their own, or one
-/// after another with `--serial`; each passes the gate before its first top. `gen` with a number makes the script
-/// of that number, and leaves the source alone; it runs that script likewise, one session after another, over the
-/// disks of the place without a name, and writes the summary. `audit` reads a saved trail from the source, and
-/// writes whether its history is legal, and its serial order. All other words are refused with the usage line.
+/// after another with `--serial`. Each, and each branch, passes the gate before each begin, step and end.
+/// `gen` with a number makes the script of that number, and leaves the source alone; it runs that script likewise,
+/// one session after another, over the disks of the place without a name, and writes the summary. `audit` reads a
+/// saved trail from the source, and writes whether its history is legal, and its serial order. All other words are
+/// refused with the usage line.
 ///
 /// Whatever it answers, its history is legal, with the requests to copies and their grants in it, and the
 /// serial machine with one value per record accepts the order that completion gives it, in which every user

@@ -184,4 +184,9 @@ pub trait Tx: Sized {
     fn crash(&mut self, copy: u8)
         requires fits { CopyFits (view self.old).client.setting copy }
         ensures same { view self.new ≡ view self.old };
+
+    /// Its client, a branch, asks for nothing more, and is then merged. It makes nothing, and sees nothing.
+    fn rest(&mut self)
+        ensures same { view self.new ≡ view self.old }
+    {}
 }

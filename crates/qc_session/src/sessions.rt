@@ -15,7 +15,8 @@ use qc_board::Board;
 use qc_desk::Pass;
 use qc_disk::Disk;
 use qc_event::{Base, Short};
-use qc_interp::{Gate, Mode};
+use qc_gate::Gate;
+use qc_interp::Mode;
 use qc_script::Script;
 use qc_system::{Mounting, Others, System};
 use qc_trail::Trail;
@@ -76,9 +77,9 @@ fn none_ran<R: Wait, D: Disk + Drop, N: Mounting>(
 }
 
 /// Runs the sessions of a script over a system that was just opened, in threads or in order, and takes that apart, with what
-/// stands beside it. Each passes the gate before its first top. Where memory or room is wanting, a session stops, and what
-/// it made before stands; the others go on. Where memory is wanting for the board, none begins; where it is for a fold of
-/// disks at the end, none came to its end by what is told.
+/// stands beside it. Each, and each branch, passes the gate before each begin, step and end. Where memory or room is
+/// wanting, a session stops, and what it made before stands; the others go on. Where memory is wanting for the board, none
+/// begins; where it is for a fold of disks at the end, none came to its end by what is told.
 pub fn run_sessions<
     R: Threads + Wait + Sync,
     D: Disk + Drop + Send,

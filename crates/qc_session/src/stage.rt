@@ -14,7 +14,8 @@ use qc_carry::Line;
 use qc_desk::Pass;
 use qc_disk::Disk;
 use qc_event::Short;
-use qc_interp::{Gate, Host, Mode, run_tops, told_want};
+use qc_gate::{Gate, Walker};
+use qc_interp::{Gated, Host, Mode, run_tops, told_want};
 use qc_net::{Courier, Fate, PlanLink};
 use qc_script::{Script, Session};
 use qc_system::{Boxed, Mounting, System};
@@ -64,7 +65,7 @@ fn run_client<
     R: Threads + Wait + Sync,
     D: Disk + Drop + Send,
     N: Mounting + Send + Sync,
-    G: Gate,
+    G: Gate + Sync,
     B: Boarded + Send + Sync,
 >(
     rt: &R,
@@ -91,15 +92,18 @@ fn run_client<
 {
     let fates = match fates_of(session) {
         Ok(fates) => fates,
-        Err(AllocError) => return (Err(Short::Memory), pass),
+        Err(AllocError) => {
+            gate.ends(&Walker::session(number));
+            return (Err(Short::Memory), pass);
+        }
     };
     let courier = Courier::new(alloc, PlanLink::new(fates, session.hold));
     let line = Line::new(rt, system, pass, courier, script.patience);
-    let mut client = Client::<_, _, _, _, B>::new(line, &script.table, number, board, seat);
-    gate.pass(number);
+    let client = Client::<_, _, _, _, B>::new(line, &script.table, number, board, seat);
+    let mut gated = Gated::new(client, gate, number);
     let host = Host { rt, alloc, mode };
-    let ran = run_tops(&mut client, &host, session.tops.as_slice());
-    (ran, client.into_pass())
+    let ran = run_tops(&mut gated, &host, session.tops.as_slice());
+    (ran, gated.into_inner().into_pass())
 }
 
 impl<
@@ -247,5 +251,9 @@ pub(crate) fn run_over<
         mode,
         at: PhantomData,
     };
-    stage.run_from(first, first_seat, script.sessions.as_slice(), 0)
+    let sessions = script.sessions.as_slice();
+    if mode == Mode::Threads {
+        gate.opens(sessions.len() as u8);
+    }
+    stage.run_from(first, first_seat, sessions, 0)
 }

@@ -1,10 +1,9 @@
 //! Sessions that add to one record.
 
-use crate::command::{Outcome, run_text};
-use crate::text::Text;
 use qc_disk::{MemDisk, MemShop};
 use qc_event::{Entry, Event};
 use qc_run::NoGate;
+use rows_runs::{Outcome, Text, run_text};
 use std::alloc::{AllocError, Global};
 use std::collections::BTreeSet;
 use std::sync::Wait;

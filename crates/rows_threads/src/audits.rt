@@ -1,9 +1,8 @@
 //! Histories before the checker, the audit and the judge.
 
-use crate::judged::run_script;
-use crate::made::{Tops, make_script};
-use crate::random::Random;
+use qc_run::NoGate;
 use rows_judge::Fault;
+use rows_runs::{Random, Tops, make_script, run_script};
 use std::alloc::{AllocError, Global};
 use std::fmt;
 use std::sync::Wait;
@@ -49,7 +48,7 @@ pub(crate) fn count_following<R: Threads + Wait + Sync>(
     };
     for _ in 0..runs {
         let text = make_script(alloc, &mut random, tops)?;
-        if let Some(judged) = run_script(handle, alloc, options, text.as_str())? {
+        if let Some(judged) = run_script(handle, alloc, options, text.as_str(), &NoGate)? {
             count.killed |= judged.has_killed();
             match judged.fault(alloc) {
                 Some(fault) => count.fault = Some(fault),

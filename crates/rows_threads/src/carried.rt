@@ -1,9 +1,9 @@
 //! Sessions that add to one record, run after run over the disks of one store.
 
 use crate::adds::{number_behind, script_of};
-use crate::command::run_text;
 use qc_disk::{MemDisk, MemShop};
 use qc_run::NoGate;
+use rows_runs::run_text;
 use std::alloc::{AllocError, Global};
 use std::sync::Wait;
 use std::thread::Threads;

@@ -30,7 +30,7 @@ impl Crossing {
 }
 
 impl Gate for Crossing {
-    fn pass(&self, session: u8) {
+    fn starts(&self, session: u8) {
         self.begun.store(true, Ordering::SeqCst);
         if self.second_waits && session == 1 {
             self.meeting.wait_for_the_first();

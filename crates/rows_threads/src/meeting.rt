@@ -66,7 +66,7 @@ impl Meeting {
 }
 
 impl Gate for Meeting {
-    fn pass(&self, session: u8) {
+    fn starts(&self, session: u8) {
         self.come(session);
     }
 }

@@ -2,9 +2,6 @@
 
 use crate::branches::branch_as;
 use crate::ends::{end_as, mark_more};
-use crate::judged::run_script;
-use crate::made::{Tops, make_script};
-use crate::random::Random;
 use crate::renamed::{about, next_to};
 use crate::spoiled::Spoiled;
 use crate::spots::{
@@ -13,7 +10,9 @@ use crate::spots::{
 };
 use crate::starts::{start_as, with_seat};
 use qc_event::{Entry, Event};
+use qc_run::NoGate;
 use rows_judge::Fault;
+use rows_runs::{Random, Tops, make_script, run_script};
 use std::alloc::{AllocError, Global};
 use std::sync::Wait;
 use std::thread::Threads;
@@ -147,7 +146,7 @@ pub(crate) fn fault_of_slip<R: Threads + Wait + Sync>(
     let mut random = Random::new(seed);
     for _ in 0..MOST {
         let text = make_script(alloc, &mut random, tops_of(kind))?;
-        if let Some(judged) = run_script(handle, alloc, "--serial", text.as_str())? {
+        if let Some(judged) = run_script(handle, alloc, "--serial", text.as_str(), &NoGate)? {
             if judged.fault(alloc).is_none() {
                 let trail = judged.entries.as_slice();
                 if let Some(spoiled) = spoil(alloc, kind, trail)? {

@@ -100,5 +100,6 @@ pub(crate) fn run_branch<T: Tx + Send + Drop, R: Threads + Sync>(
     ensures ran { HasRun (stands T.view branch.old) (stands T.view branch.new) }
 {
     let came = branch_tries(&mut branch.tx, host, of, branch.body, &branch.first);
+    branch.tx.rest();
     branch.came = Some(came);
 }

@@ -16,8 +16,8 @@ ghost use Rattle.qc_interp.specs.Branches.{row_step};
 ghost use Rattle.qc_interp.specs.Running.{Runs, CutOff, HasActed};
 
 use crate::body::branch::{Branch, BranchCame, run_branch};
-use crate::gate::Mode;
 use crate::host::Host;
+use crate::mode::Mode;
 use crate::stops::{quit_for, stop};
 use crate::wants::told_want;
 use qc_event::{Cause, Name, Short};

@@ -1,7 +1,7 @@
 use Rattle.std.proofs.Common.{rules, inr, Ok, map, ◌∷◌, None, ◌≡◌, ◌<◌, ◌≤◌, ◌-◌, [], length, refl, sym, ap, ◌∙◌, subst, arith}
-use Rattle.std.specs.Prelude.{IfOk, IfErr}
+use Rattle.std.specs.Prelude.{IfOk, IfErr, Some}
 use Rattle.qc_event.specs.declared.event.Kind.TheVariants as kind
-use Rattle.qc_script.specs.Client.{Client, Made, HasJoined}
+use Rattle.qc_script.specs.Client.{Client, ClientView, Made, HasJoined}
 use Rattle.qc_script.specs.Plan.{Plan, PlanFits, row_of}
 use Rattle.qc_script.specs.Steps.{put, plan_of, numbered}
 use Rattle.qc_interp.specs.Running.{Runs, WhyStop, Ended, CutOff, Acted, HasActed, HasLooked, Stepped, WentOn, child_step, TriesCame}
@@ -943,3 +943,13 @@ row::par-returns g t c =
           (λ m rest. turned_cut_behind row refused x.seen turned y.seen rest (subst (λ (d : Client). Made d [] x.seen y.seen) same m)) c.behind-in_default-why.ensures.cut);
       room = c.behind-in_default-why.ensures.room;
     }
+
+-- A BRANCH
+
+pub branch::run_branch-returns : goal.branch::run_branch-returns
+branch::run_branch-returns g t c =
+    let view = g.T.Tx.view in
+    let old : StandingBranch = stands view c.args.branch.now in
+    let now : ClientView → StandingBranch = λ v. record { view = v; body = old.body; first = old.first; came = Some c.branch_tries-came.result } in
+    let ran : HasRun old (now (view c.branch_tries-came.new.tx)) = search rules in
+    record { ran = subst (λ v. HasRun old (now v)) (sym c.rest.ensures.same) ran }

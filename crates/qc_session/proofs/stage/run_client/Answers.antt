@@ -33,8 +33,9 @@ new-requires g c = let held = c.requires.fits.some_hold in omega (arith, held)
 pub run_tops-ran-requires-clause-met : goal.run_tops-ran-requires-clause-met
 run_tops-ran-requires-clause-met g c κs within =
     let setting = setting_of g.N.Store.table g.N.Store.base in
-    let client = c.new-client.result in
-    let line = c.new-client.ensures.line in
+    let inside = c.new-gated.ensures.inside in
+    let client = c.new-gated.result.tx in
+    let line = ap (λ k. k.line) inside ∙ c.new-client.ensures.line in
     let told = plan_of (link_of client.line.courier) in
     let same_pass : client.line.pass ≡ c.args.pass = ap (λ l. l.pass) line ∙ c.new-line.ensures.pass in
     let same_plan : told ≡ starting c.in-Ok.fates.items c.args.session.now.hold =
@@ -43,7 +44,7 @@ run_tops-ran-requires-clause-met g c κs within =
     let patience = ap (λ l. l.patience) line ∙ c.new-line.ensures.patience in
     meets_at_start setting c.args.system.now.desk.epoch c.args.script.now.patience c.args.number (plan_of_session c.args.session.now) c.args.pass c.requires.new _ client.line.pass.seen
     (client_is setting client.root client.session c.args.number client.line.system.now.desk.epoch c.args.system.now.desk.epoch client.line.patience c.args.script.now.patience c.args.session.now.hold told c.in-Ok.fates.items c.args.session.now.fates.items client.line.pass c.args.pass
-    c.new-client.ensures.root c.new-client.ensures.session epoch same_plan c.in-Ok.ensures patience same_pass)
+    (ap (λ k. k.root) inside ∙ c.new-client.ensures.root) (ap (λ k. k.session) inside ∙ c.new-client.ensures.session) epoch same_plan c.in-Ok.ensures patience same_pass)
     (ap (λ (v : View). v.seen) same_pass)
 
 module _ (g : Over) (c : goal.After-into_pass g) where
@@ -53,44 +54,48 @@ module _ (g : Over) (c : goal.After-into_pass g) where
   abbrev plan : SessionPlan
   plan = plan_of_session c.args.session.now
 
-  same_pass : c.new-client.result.line.pass ≡ c.args.pass
-  same_pass = ap (λ l. l.pass) c.new-client.ensures.line ∙ c.new-line.ensures.pass
+  line_is : c.new-gated.result.tx.line ≡ c.new-line.result
+  line_is = ap (λ k. k.line) c.new-gated.ensures.inside ∙ c.new-client.ensures.line
 
-  same_epoch : c.new-client.result.line.system.now.desk.epoch ≡ c.args.system.now.desk.epoch
-  same_epoch = ap (λ l. l.system.now.desk.epoch) c.new-client.ensures.line ∙ ap (λ s. s.desk.epoch) c.new-line.ensures.system
+  same_pass : c.new-gated.result.tx.line.pass ≡ c.args.pass
+  same_pass = ap (λ l. l.pass) line_is ∙ c.new-line.ensures.pass
 
-  same_patience : c.new-client.result.line.patience ≡ c.args.script.now.patience
-  same_patience = ap (λ l. l.patience) c.new-client.ensures.line ∙ c.new-line.ensures.patience
+  same_epoch : c.new-gated.result.tx.line.system.now.desk.epoch ≡ c.args.system.now.desk.epoch
+  same_epoch = ap (λ l. l.system.now.desk.epoch) line_is ∙ ap (λ s. s.desk.epoch) c.new-line.ensures.system
 
-  same_plan : plan_of (link_of c.new-client.result.line.courier) ≡ starting c.in-Ok.fates.items c.args.session.now.hold
+  same_patience : c.new-gated.result.tx.line.patience ≡ c.args.script.now.patience
+  same_patience = ap (λ l. l.patience) line_is ∙ c.new-line.ensures.patience
+
+  same_plan : plan_of (link_of c.new-gated.result.tx.line.courier) ≡ starting c.in-Ok.fates.items c.args.session.now.hold
   same_plan =
-      ap (λ l. plan_of (link_of l.courier)) c.new-client.ensures.line
+      ap (λ l. plan_of (link_of l.courier)) line_is
       ∙ ap (λ (k : Courier PlanLink). plan_of (link_of k)) c.new-line.ensures.courier
       ∙ ap plan_of c.new-courier.ensures.link
       ∙ c.new.ensures.plan
 
   abbrev asked : Client
-  asked = client_of setting c.new-client.result.root c.new-client.result.session c.new-client.result.line.system.now.desk.epoch (link_told (Some (plan_of (link_of c.new-client.result.line.courier))) c.new-client.result.line.patience) c.new-client.result.line.pass
+  asked = client_of setting c.new-gated.result.tx.root c.new-gated.result.tx.session c.new-gated.result.tx.line.system.now.desk.epoch (link_told (Some (plan_of (link_of c.new-gated.result.tx.line.courier))) c.new-gated.result.tx.line.patience) c.new-gated.result.tx.line.pass
 
   abbrev wanted : Client
   wanted = client_for setting c.args.system.now.desk.epoch c.args.script.now.patience c.args.number plan c.args.pass
 
   same_client : asked ≡ wanted
-  same_client = client_is setting c.new-client.result.root c.new-client.result.session c.args.number c.new-client.result.line.system.now.desk.epoch c.args.system.now.desk.epoch c.new-client.result.line.patience c.args.script.now.patience c.args.session.now.hold (plan_of (link_of c.new-client.result.line.courier)) c.in-Ok.fates.items c.args.session.now.fates.items c.new-client.result.line.pass c.args.pass
-      c.new-client.ensures.root c.new-client.ensures.session same_epoch same_plan c.in-Ok.ensures same_patience same_pass
+  same_client = client_is setting c.new-gated.result.tx.root c.new-gated.result.tx.session c.args.number c.new-gated.result.tx.line.system.now.desk.epoch c.args.system.now.desk.epoch c.new-gated.result.tx.line.patience c.args.script.now.patience c.args.session.now.hold (plan_of (link_of c.new-gated.result.tx.line.courier)) c.in-Ok.fates.items c.args.session.now.fates.items c.new-gated.result.tx.line.pass c.args.pass
+      (ap (λ k. k.root) c.new-gated.ensures.inside ∙ c.new-client.ensures.root) (ap (λ k. k.session) c.new-gated.ensures.inside ∙ c.new-client.ensures.session) same_epoch same_plan c.in-Ok.ensures same_patience same_pass
 
 pub returns : goal.returns
 returns g c =
-    let tx = c.run_tops-ran.new.tx in
+    let tx = c.run_tops-ran.new.tx.tx in
+    let given : c.into_pass.result ≡ tx.line.pass = c.into_pass.ensures.pass ∙ ap (λ k. k.line.pass) c.into_inner.ensures.inside in
     let ran = client_of (setting g c) tx.root tx.session tx.line.system.now.desk.epoch (link_told (Some (plan_of (link_of tx.line.courier))) tx.line.patience) tx.line.pass in
-    let before = c.new-client.result.line.pass.seen in
+    let before = c.new-gated.result.tx.line.pass.seen in
     let back = tx.line.pass in
-    subst (RanOne (setting g c) c.args.system.now.desk.epoch c.args.script.now.patience c.args.number (plan g c) c.args.pass c.run_tops-ran.result) (sym c.into_pass.ensures.pass)
+    subst (RanOne (setting g c) c.args.system.now.desk.epoch c.args.script.now.patience c.args.number (plan g c) c.args.pass c.run_tops-ran.result) (sym given)
     (one_ran (setting g c) c.args.system.now.desk.epoch c.args.script.now.patience c.args.number (plan g c) c.args.pass c.requires.new (asked g c) before (same_client g c) (ap (λ (v : View). v.seen) (same_pass g c))
     tx.root tx.session tx.line.system.now.desk.epoch (link_told (Some (plan_of (link_of tx.line.courier))) tx.line.patience) back c.run_tops-ran.ensures.joined
     tx.line.client.0
-    (subst (λ (v : View). AreHigh (numbers v)) c.into_pass.ensures.pass c.into_pass.ensures.high)
-    (subst (λ (v : View). ∥ AreTidy (numbers v) v.seen ∥₁) c.into_pass.ensures.pass c.into_pass.ensures.tidy)
+    (subst (λ (v : View). AreHigh (numbers v)) given c.into_pass.ensures.high)
+    (subst (λ (v : View). ∥ AreTidy (numbers v) v.seen ∥₁) given c.into_pass.ensures.tidy)
     c.run_tops-ran.ensures.met c.run_tops-ran.result
     (subst (λ (bodies : List Body). OnOk c.run_tops-ran.result (EndsTops ran before back.seen (map numbered bodies))) c.as_slice.ensures.value c.run_tops-ran.ensures.ok)
     c.run_tops-ran.ensures.turns

@@ -9,9 +9,9 @@ use std::thread::Threads;
 
 /// What came of a run, and what it wrote.
 #[derive(Drop)]
-pub(crate) struct Outcome<D> {
-    pub(crate) ran: Ran<D>,
-    pub(crate) sink: MemSink,
+pub struct Outcome<D> {
+    pub ran: Ran<D>,
+    pub sink: MemSink,
 }
 
 // The words of a command with these options.
@@ -43,7 +43,7 @@ where
 }
 
 /// Runs the script that the text is.
-pub(crate) fn run_text<R: Threads + Wait + Sync, H: Shop, G: Gate + Sync>(
+pub fn run_text<R: Threads + Wait + Sync, H: Shop, G: Gate + Sync>(
     handle: &R,
     alloc: Global,
     options: &str,
@@ -60,21 +60,22 @@ where
 }
 
 /// Runs the script that the text is, over disks in memory, and saves its trail.
-pub(crate) fn save_trail<R: Threads + Wait + Sync>(
+pub fn save_trail<R: Threads + Wait + Sync, G: Gate + Sync>(
     handle: &R,
     alloc: Global,
     options: &str,
     script: &str,
+    gate: &G,
 ) -> Result<Outcome<MemDisk>, AllocError> {
     let mut words = words_of(alloc, "run", options)?;
     words.push(String::from_str(alloc, "--trail")?)?;
     let bytes = script.as_bytes().to_vec(alloc)?;
     let mut shop = MemShop::new(Vec::new(alloc), Vec::new(alloc));
-    Ok(run_words(handle, alloc, words.as_slice(), bytes, &mut shop, &NoGate))
+    Ok(run_words(handle, alloc, words.as_slice(), bytes, &mut shop, gate))
 }
 
 /// Whether a saved trail is audited as legal, and as accepted by the serial machine.
-pub(crate) fn passes_audit<R: Threads + Wait + Sync>(
+pub fn passes_audit<R: Threads + Wait + Sync>(
     handle: &R,
     alloc: Global,
     saved: &[u8],

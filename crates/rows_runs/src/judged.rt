@@ -6,7 +6,7 @@ use qc_check::check_by_scans;
 use qc_config::Config;
 use qc_disk::MemDisk;
 use qc_event::{Cause, Entry, Event, How};
-use qc_run::{Ran, Status};
+use qc_run::{Gate, Ran, Status};
 use qc_script::Script;
 use rows_judge::{Fault, judge};
 use std::alloc::{AllocError, Global};
@@ -15,24 +15,25 @@ use std::thread::Threads;
 
 /// A script, what came of its run to its end, the entries of its history, and the saved trail.
 #[derive(Drop)]
-pub(crate) struct Judged {
+pub struct Judged {
     script: Script,
     ran: Ran<MemDisk>,
-    pub(crate) entries: Vec<Entry>,
+    pub entries: Vec<Entry>,
     saved: Vec<u8>,
 }
 
 /// Runs a script to its end; nothing where the text is none, or the run ends before.
-pub(crate) fn run_script<R: Threads + Wait + Sync>(
+pub fn run_script<R: Threads + Wait + Sync, G: Gate + Sync>(
     handle: &R,
     alloc: Global,
     options: &str,
     text: &str,
+    gate: &G,
 ) -> Result<Option<Judged>, AllocError> {
     let Ok(script) = Script::read(alloc, text.as_bytes()) else {
         return Ok(None);
     };
-    let outcome = save_trail(handle, alloc, options, text)?;
+    let outcome = save_trail(handle, alloc, options, text, gate)?;
     let saved = outcome.sink.bytes().to_vec(alloc)?;
     let ran = outcome.ran;
     let entries = ran.trail.to_vec(alloc)?;
@@ -57,7 +58,7 @@ fn firsts_of(alloc: Global, script: &Script) -> Result<Vec<Config>, AllocError> 
 }
 
 /// Whether a transaction of a history was killed.
-pub(crate) fn has_killed(entries: &[Entry]) -> bool {
+pub fn has_killed(entries: &[Entry]) -> bool {
     entries.iter().any(|entry| {
         matches!(
             entry.event,
@@ -70,15 +71,25 @@ pub(crate) fn has_killed(entries: &[Entry]) -> bool {
 }
 
 impl Judged {
+    /// The trail that it saved.
+    pub fn saved(&self) -> &[u8] {
+        self.saved.as_slice()
+    }
+
+    /// The disks that it left.
+    pub fn disks(&self) -> &[MemDisk] {
+        self.ran.disks.as_slice()
+    }
+
     /// Whether the history is legal.
-    pub(crate) fn is_legal(&self, alloc: Global) -> Result<bool, AllocError> {
+    pub fn is_legal(&self, alloc: Global) -> Result<bool, AllocError> {
         let firsts = firsts_of(alloc, &self.script)?;
         let entries = self.entries.as_slice();
         Ok(check_by_scans(&self.ran.start, firsts.as_slice(), entries).is_ok())
     }
 
     /// Whether its saved trail is audited as legal, and as accepted by the serial machine.
-    pub(crate) fn passes_audit<R: Threads + Wait + Sync>(
+    pub fn passes_audit<R: Threads + Wait + Sync>(
         &self,
         handle: &R,
         alloc: Global,
@@ -87,17 +98,17 @@ impl Judged {
     }
 
     /// The fault that the judge finds in a trail of the script.
-    pub(crate) fn fault_of(&self, alloc: Global, trail: &[Entry]) -> Option<Fault> {
+    pub fn fault_of(&self, alloc: Global, trail: &[Entry]) -> Option<Fault> {
         judge(alloc, &self.script, trail).err()
     }
 
     /// The fault that the judge finds in its own trail.
-    pub(crate) fn fault(&self, alloc: Global) -> Option<Fault> {
+    pub fn fault(&self, alloc: Global) -> Option<Fault> {
         self.fault_of(alloc, self.entries.as_slice())
     }
 
     /// Whether a transaction of it was killed.
-    pub(crate) fn has_killed(&self) -> bool {
+    pub fn has_killed(&self) -> bool {
         has_killed(self.entries.as_slice())
     }
 }

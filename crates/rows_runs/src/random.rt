@@ -3,18 +3,18 @@ ghost use Rattle.std.specs.Prelude.{◌<◌};
 
 /// The state of a generator (SplitMix64).
 #[derive(Drop)]
-pub(crate) struct Random {
+pub struct Random {
     state: u64,
 }
 
 impl Random {
     /// A generator of a seed.
-    pub(crate) fn new(seed: u64) -> Self {
+    pub fn new(seed: u64) -> Self {
         Random { state: seed }
     }
 
     /// A number below a limit.
-    pub(crate) fn below(&mut self, limit: u64) -> u64
+    pub fn below(&mut self, limit: u64) -> u64
         requires { 0 < limit }
         ensures { result < limit }
     {

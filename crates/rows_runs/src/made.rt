@@ -62,7 +62,7 @@ const BRANCH_HEADS: [&str; 5] = [
 
 /// Whether the tops of a script run bodies at once.
 #[derive(Clone, Copy)]
-pub(crate) enum Tops {
+pub enum Tops {
     InTurn,
     AtOnce,
 }
@@ -179,11 +179,7 @@ fn add_session(random: &mut Random, text: &mut Text, tops: Tops, most: u64, sess
 /// A script of two to six sessions, with at most three tops each and eight together, or of one or
 /// two with one or two tops that run bodies at once: the checker's time grows with the fourth power
 /// of the history's length.
-pub(crate) fn make_script(
-    alloc: Global,
-    random: &mut Random,
-    tops: Tops,
-) -> Result<String, AllocError> {
+pub fn make_script(alloc: Global, random: &mut Random, tops: Tops) -> Result<String, AllocError> {
     let (others, most) = match tops {
         Tops::InTurn => {
             let others = random.below(5) + 1;
