@@ -6,6 +6,7 @@ use Rattle.std.specs.List.{range_with_len}
 use Rattle.std.proofs.lemmas.List.{length-map}
 use Rattle.std.proofs.lemmas.List.FromFn.{get_or-map-range_with_len, length-map-range_with_len}
 use Rattle.std.proofs.lemmas.Option.{none-some, slice_get-get_or}
+use Rattle.qc_config.specs.Val.{Datum, Number}
 use Rattle.qc_event.specs.Base.{Setting, first_of}
 use Rattle.qc_event.specs.History.{Past}
 use Rattle.qc_event.specs.Legal.{Legal}
@@ -34,19 +35,19 @@ use Rattle.qc_audit.specs.Verdicts.{IsLegal, IsSerial, IsUnserial, no_of, order_
 
 module _ (setting : Setting) (past : Past) (legal : Legal setting past) where
   -- the machine refuses the whole order for its values alone
-  pub refused_for_values : (values : List ℕ) → first_refused (begin values) (walk past []) ≡ first_unfound values (walk past [])
+  pub refused_for_values : (values : List Datum) → first_refused (begin values) (walk past []) ≡ first_unfound values (walk past [])
   refused_for_values values =
       subst (λ es. first_refused (begin values) es ≡ first_unfound values es) (serialise_root past)
       (refused_unfound (begin values) (serialise past []) (shaped_order past [] values (legal_orderly setting past legal) tt (root_alive setting past legal)))
 
   -- where start tuples carry a map of values, they carry those of their greatest versions
-  carried_by_version : (values : List ℕ) → IsSound setting values → IsSound setting (values_by_version setting.base [] (length setting.firsts))
+  carried_by_version : (values : List Datum) → IsSound setting values → IsSound setting (values_by_version setting.base [] (length setting.firsts))
   carried_by_version values sound rec less =
       let n = length setting.firsts in
       let f = final_value setting.base [] in
       let own : slice_get values rec ≡ Some (f rec) = last_value setting values [] rec tt sound less in
       let other : slice_get (values_by_version setting.base [] n) rec ≡ Some (f rec) =
-      slice_get-get_or (map f (range_with_len 0 n)) rec 0 (omega (arith, less, length-map-range_with_len f 0 n)) ∙ ap (λ v. Some v) (get_or-map-range_with_len f 0 n rec rec 0 less (omega arith)) in
+      slice_get-get_or (map f (range_with_len 0 n)) rec (Number 0) (omega (arith, less, length-map-range_with_len f 0 n)) ∙ ap (λ v. Some v) (get_or-map-range_with_len f 0 n rec rec (Number 0) less (omega arith)) in
       subst (λ o. MatchOption o ⊥ (Carries (first_of setting rec) (column setting.base rec))) (own ∙ sym other) (sound rec less)
 
   accepts_all : (m : State) (es : List SerialEvent) → Accepts m es → first_refused m es ≡ None
@@ -54,7 +55,7 @@ module _ (setting : Setting) (past : Past) (legal : Legal setting past) where
   accepts_all m (e ∷ es) all = ap (λ b. if b then option_map (λ k. suc k) (first_refused (next m e) es) else Some 0) all.0 ∙ ap (option_map (λ k. suc k)) (accepts_all (next m e) es all.1)
 
   -- so where the machine refuses the order from there, they carry none
-  pub unsound : (place : ℕ) → first_refused (begin (values_by_version setting.base [] (length setting.firsts))) (walk past []) ≡ Some place → (values : List ℕ) → IsSound setting values → ⊥
+  pub unsound : (place : ℕ) → first_refused (begin (values_by_version setting.base [] (length setting.firsts))) (walk past []) ≡ Some place → (values : List Datum) → IsSound setting values → ⊥
   unsound place refused values sound =
       let start = values_by_version setting.base [] (length setting.firsts) in
       let serial = serial_order setting start past [] legal (carried_by_version values sound) tt (root_alive setting past legal) in

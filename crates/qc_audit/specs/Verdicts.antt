@@ -1,5 +1,6 @@
 -- What is true of a saved trail.
 use Rattle.std.specs.Prelude.{ℕ, ◌≡◌, List, [], length, reverse, None, Some}
+use Rattle.qc_config.specs.Val.{Datum}
 use Rattle.qc_codec.specs.declared.fault.CodecNo.{CodecNo}
 use Rattle.qc_codec.specs.declared.fault.CodecNo.TheVariants as codec_no
 use Rattle.qc_event.specs.declared.table.Table.{Table}
@@ -33,7 +34,7 @@ order_of trail = walk (reverse trail.entries) []
 
 -- the values with which the serial machine begins: those of the greatest versions of the base, of equals the least
 -- copy's
-abbrev pub start_values : Table → SavedTrail → List ℕ
+abbrev pub start_values : Table → SavedTrail → List Datum
 start_values table trail = values_by_version trail.base [] (length table.records)
 
 -- The trail is legal, and the serial machine accepts its order.
@@ -46,7 +47,7 @@ pub record IsSerial (table : Table) (trail : SavedTrail) : Type 0 where
 pub record IsUnserial (table : Table) (trail : SavedTrail) (place : ℕ) : Type 0 where
   pub legal : IsLegal table trail
   pub refused : first_refused (begin (start_values table trail)) (order_of trail) ≡ Some place
-  pub unsound : (values : List ℕ) → IsSound (setting_of table trail.base) values → ⊥
+  pub unsound : (values : List Datum) → IsSound (setting_of table trail.base) values → ⊥
 
 -- a verdict on a saved trail is true
 abbrev pub IsTrueOf : Table → SavedTrail → Verdict → Type 0

@@ -86,28 +86,32 @@ fn add_end(
     ensures { OnOk result (events.new.items
         ≡ events.old.items ++ words.ended kind inner.now c.now how.now) }
 {
-    match (how, kind) {
-        (How::Commit(_), Some(Kind::User { .. })) => {
-            events.push(SerialEvent::Enter(*c))?;
-            events.extend_from_slice(inner)?;
-            events.push(SerialEvent::Leave(*c))?;
+    match &kind {
+        Some(Kind::User { .. }) => match how {
+            How::Commit(_) => {
+                events.push(SerialEvent::Enter(*c))?;
+                events.extend_from_slice(inner)?;
+                events.push(SerialEvent::Leave(*c))?;
+            }
+            How::Abort(_) => events.push(SerialEvent::Skip(*c))?,
+        },
+        Some(Kind::Read { rec }) => {
+            if let How::Commit(Answer::Value(value)) = how {
+                events.push(SerialEvent::Read {
+                    name: *c,
+                    rec: *rec,
+                    value: *value,
+                })?;
+            }
         }
-        (How::Abort(_), Some(Kind::User { .. })) => {
-            events.push(SerialEvent::Skip(*c))?;
-        }
-        (How::Commit(Answer::Value(value)), Some(Kind::Read { rec })) => {
-            events.push(SerialEvent::Read {
-                name: *c,
-                rec,
-                value: *value,
-            })?;
-        }
-        (How::Commit(_), Some(Kind::Write { rec, value })) => {
-            events.push(SerialEvent::Write {
-                name: *c,
-                rec,
-                value,
-            })?;
+        Some(Kind::Write { rec, value }) => {
+            if let How::Commit(_) = how {
+                events.push(SerialEvent::Write {
+                    name: *c,
+                    rec: *rec,
+                    value: *value,
+                })?;
+            }
         }
         _ => {}
     }

@@ -1,36 +1,27 @@
 -- Which requests were answered, and that they stay so.
-use Rattle.std.proofs.Common.{◌≡◌, ◌⊎◌, zero, suc, Bool, true, false, List, [], ◌∷◌, ◌++◌, inl, inr, refl, sym, ap, ◌∙◌, subst, arith}
+use Rattle.std.proofs.Common.{◌≡◌, ◌⊎◌, zero, suc, Bool, true, List, [], ◌∷◌, ◌++◌, inl, inr, refl, ap, ◌∙◌, arith}
 use Rattle.std.specs.Prelude.{None, Some, Contains, ◌||◌, map, is_some, if◌then◌else◌}
 use Rattle.std.specs.List.{AllByRecursion, list_all}
-use Rattle.std.specs.Option.{option_map_or}
 use Rattle.std.proofs.lemmas.Bool.{and_from, and_parts, or_left, or_right}
-use Rattle.std.proofs.lemmas.List.Elements.{Contains-append_right}
-use Rattle.qc_event.specs.Grants.{grant_with}
 use Rattle.qc_event.specs.declared.event.Answered.{Answered}
 use Rattle.qc_event.specs.declared.event.Answered.TheVariants as answered
 use Rattle.qc_event.specs.declared.event.Ask.{Ask}
 use Rattle.qc_event.specs.declared.event.Entry.{Entry}
 use Rattle.qc_event.specs.declared.event.Refusal.{Refusal}
 use Rattle.qc_event.specs.declared.event.Refusal.TheVariants as refusal
-use Rattle.qc_event.specs.declared.event.Why.{Why}
 use Rattle.qc_event.specs.declared.event.Why.TheVariants.{Down, Full, Strange}
 use Rattle.qc_event.specs.History.{Past, Name, granted, grant_in, refused, refusal_in}
-use Rattle.qc_event.specs.Requests.{is_why, unable_in, was_unable}
+use Rattle.qc_event.specs.Requests.{was_unable}
 use Rattle.qc_event.proofs.Absent.{same_itself}
-use Rattle.qc_event.proofs.Booleans.{any_right, or_wider}
+use Rattle.qc_event.proofs.Booleans.{or_wider}
 use Rattle.qc_event.proofs.OneEntry.{here_some, stays_some}
-use Rattle.qc_event.proofs.StillTold.{is_stays, some_stays}
+use Rattle.qc_event.proofs.StillTold.{some_stays}
 use Rattle.qc_net.specs.Given.{Given}
 use Rattle.qc_net.specs.Messages.{was_answered}
-use Rattle.qc_desk.specs.Entries.{IsOlder}
-use Rattle.qc_site.specs.Answers.{HasAnswered}
-use Rattle.qc_site.specs.AtDesk.{refused_entry}
+use Rattle.qc_desk.specs.Answers.{refused_entry, HasAnswered}
+use Rattle.qc_desk.proofs.Answered.{unable_still}
 
 -- WHAT STAYS
-
-pub unable_still : (newer past : Past) (n : Name) (why : Why) → was_unable past n why ≡ true → was_unable (newer ++ past) n why ≡ true
-unable_still newer past n why h =
-    any_right (λ (e : Entry). option_map_or (is_why why) (unable_in n e.event) false) newer past h
 
 -- what was answered is answered for ever
 answered_still : (newer past : Past) (n : Name) → was_answered past n ≡ true → was_answered (newer ++ past) n ≡ true
@@ -49,18 +40,6 @@ all_answered_still newer past [] h = refl
 all_answered_still newer past (a ∷ rest) h =
     let parts = and_parts (was_answered past a.access) (list_all (λ (x : Ask). was_answered past x.access) rest) h in
     and_from (was_answered (newer ++ past) a.access) (list_all (λ (x : Ask). was_answered (newer ++ past) x.access) rest) (answered_still newer past a.access parts.0) (all_answered_still newer past rest parts.1)
-
--- an answer that was given stands for ever
-gave_more : (newer past : Past) (ask : Ask) (answer : Answered) → HasAnswered ask.copy past ask answer → HasAnswered ask.copy (newer ++ past) ask answer
-gave_more newer past ask (answered.Granted tuple) h = is_stays (λ e. grant_in ask.access e.event) newer past (record { copy = ask.copy; grant = grant_with ask tuple }) h
-gave_more newer past ask (answered.Blocked holder) h = Contains-append_right newer past _ h
-gave_more newer past ask (answered.Dead ancestor) h = Contains-append_right newer past _ h
-gave_more newer past ask answered.Down h = unable_still newer past ask.access Down h
-gave_more newer past ask answered.Full h = unable_still newer past ask.access Full h
-gave_more newer past ask answered.Strange h = unable_still newer past ask.access Strange h
-
-pub gave_later : (seen now : Past) (ask : Ask) (answer : Answered) → IsOlder seen now → HasAnswered ask.copy seen ask answer → HasAnswered ask.copy now ask answer
-gave_later seen now ask answer older h = subst (λ p. HasAnswered ask.copy p ask answer) (sym older.1) (gave_more older.0 seen ask answer h)
 
 -- ENTRIES THAT STAND
 

@@ -26,7 +26,7 @@ use Rattle.qc_managers.specs.declared.carrier.CarryNo.TheVariants as no
 use Rattle.qc_desk.specs.declared.view.View.{View}
 use Rattle.qc_carry.specs.Access.{Ends, IsLeft, IsShort, IsStopped, Waits, ending, orphaning}
 use Rattle.qc_carry.specs.Walk.{Walk}
-use Rattle.qc_carry.proofs.Answered.{unable_still}
+use Rattle.qc_desk.proofs.Answered.{unable_still}
 use Rattle.qc_carry.proofs.Course.{go_on}
 use Rattle.qc_carry.proofs.Orphans.{named_stays}
 use Rattle.qc_carry.proofs.OwnStays as own

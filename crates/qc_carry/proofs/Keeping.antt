@@ -27,7 +27,7 @@ use Rattle.qc_desk.specs.declared.view.View.{View}
 use Rattle.qc_desk.specs.Entries.{IsOlder}
 use Rattle.qc_desk.specs.Rules.{IsClient}
 use Rattle.qc_desk.proofs.Calls as calls
-use Rattle.qc_site.specs.Answers.{HasAnswered}
+use Rattle.qc_desk.specs.Answers.{HasAnswered}
 use Rattle.qc_carry.specs.Kept.{IsInStep, IsKept, net_of, at_start, sendings, way_of, is_loss, TellsLoss}
 use Rattle.qc_carry.specs.Walk.{Walk}
 use Rattle.qc_carry.proofs.Answered.{all_answered_still, delivered_answered}

@@ -27,7 +27,7 @@ use Rattle.qc_net.specs.declared.courier.Sent.{Sent}
 use Rattle.qc_desk.specs.declared.view.View.{View}
 use Rattle.qc_desk.specs.Entries.{IsOlder}
 use Rattle.qc_desk.specs.Rules.{IsClient}
-use Rattle.qc_site.specs.Answers.{HasAnswered}
+use Rattle.qc_desk.specs.Answers.{HasAnswered}
 use Rattle.qc_carry.specs.Access.{CutUnasked, Ends, IsLeft, IsShort, ending, orphaning}
 use Rattle.qc_carry.specs.Kept.{IsKept, Keeps, TellsLoss, TellsSent, reason_of, is_cut_off}
 use Rattle.qc_carry.specs.Walk.{Walk}

@@ -5,10 +5,9 @@ use Rattle.std.proofs.lemmas.Bool.{false_from_ne_true}
 use Rattle.qc_event.specs.declared.event.Event.{Event}
 use Rattle.qc_event.specs.History.{Past}
 use Rattle.qc_managers.specs.Carrying.{made_by, entry}
-use Rattle.qc_ledger.specs.Entered.{SeesMore}
 use Rattle.qc_desk.specs.declared.refusal.DeskNo.{DeskNo}
 use Rattle.qc_desk.specs.declared.view.View.{View}
-use Rattle.qc_desk.specs.Calling.{Looked, Entered, EnteredAs, Shown}
+use Rattle.qc_desk.specs.Calling.{Looked, Entered, EnteredAs, Shown, SeesMore}
 use Rattle.qc_desk.specs.Entries.{AreOthers, IsSince, entries_of}
 use Rattle.qc_desk.specs.Rules.{IsClient, knows, extends}
 use Rattle.qc_desk.proofs.Lists.{entries_append}

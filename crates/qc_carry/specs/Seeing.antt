@@ -1,6 +1,6 @@
 -- Seeing nothing more is seeing more.
 use Rattle.std.proofs.Common.{[], refl}
-use Rattle.qc_ledger.specs.Entered.{SeesMore}
+use Rattle.qc_desk.specs.Calling.{SeesMore}
 use Rattle.qc_desk.specs.declared.view.View.{View}
 
 -- a pass sees what it saw

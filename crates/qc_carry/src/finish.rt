@@ -9,7 +9,7 @@ ghost use Rattle.qc_net.specs.Courier.{IsAnswered};
 ghost use Rattle.qc_desk.specs.Known.{IsKnown};
 ghost use Rattle.qc_desk.specs.Own.{IsOwnAccess};
 ghost use Rattle.qc_desk.specs.Rules.{IsClient};
-ghost use Rattle.qc_site.specs.Answers.{HasAnswered};
+ghost use Rattle.qc_desk.specs.Answers.{HasAnswered};
 ghost use Rattle.qc_carry.specs.Access.{Ends, Waits};
 ghost use Rattle.qc_carry.specs.Kept.{TellsSent, ToldNoLoss, WasGivenUp};
 

@@ -11,7 +11,7 @@ ghost use Rattle.qc_net.specs.Sending.{IsSending, sending};
 ghost use Rattle.qc_desk.specs.Consulting.{HasAsked};
 ghost use Rattle.qc_desk.specs.Known.{IsKnown};
 ghost use Rattle.qc_desk.specs.Rules.{IsClient};
-ghost use Rattle.qc_site.specs.Answers.{HasAnswered};
+ghost use Rattle.qc_desk.specs.Answers.{HasAnswered};
 ghost use Rattle.qc_carry.specs.Access.{IsShort};
 ghost use Rattle.qc_carry.specs.Walk.{Walk};
 
@@ -52,9 +52,9 @@ fn is_full(served: &Result<Answered, Short>) -> bool
 
 impl<'a, R: Wait, D: Disk + Drop, N: Mounting> Port for Way<'a, R, D, N> {
     ghost use Rattle.std.specs.Prelude.{◌≡◌, true, None};
-    ghost use Rattle.qc_ledger.specs.Entered.{SeesMore};
+    ghost use Rattle.qc_desk.specs.Calling.{SeesMore};
     ghost use Rattle.qc_desk.specs.Consulting.{HasAsked};
-    ghost use Rattle.qc_site.specs.Answers.{HasAnswered};
+    ghost use Rattle.qc_desk.specs.Answers.{HasAnswered};
     ghost use Rattle.qc_ledger.proofs.Passes.{sees_on};
     ghost use Rattle.qc_carry.specs.Seeing.{sees_itself};
 

@@ -34,10 +34,7 @@ fn is_manager_answer<H: Looks>(h: &H, first: &Config, m: &Name, kind: &Kind, giv
         ↔ (given.now ≡ words.manager_answer (H.past h.now) first.now m.now kind.now) }
 {
     match kind {
-        Kind::Read { .. } => match given {
-            Answer::Value(value) => *value == greatest(h, m).value(),
-            _ => false,
-        },
+        Kind::Read { .. } => same_answer(given, &Answer::Value(greatest(h, m).value())),
         Kind::Reconf { .. } => match given {
             Answer::Generation(next) => *next > 0 && *next - 1 == newest(h, first, m).generation(),
             _ => false,

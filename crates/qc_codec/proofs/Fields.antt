@@ -3,9 +3,10 @@ use mathlib.Core.Bool.{true≢false}
 use Rattle.std.proofs.Common.{◌≡◌, ℕ, ◌-◌, ◌<◌, List, [], ◌∷◌, length, refl, sym, ap, arith}
 use Rattle.std.specs.Prelude.{nat_lt}
 use Rattle.std.proofs.lemmas.Bool.{and_parts, ltb-true}
+use Rattle.qc_config.specs.Val.{Datum, Number, number_of}
 use Rattle.qc_event.specs.History.{Name}
 use Rattle.qc_codec.specs.Form.{Form, Any, byte, run, pair, only, times}
-use Rattle.qc_codec.specs.Fields.{Layout, half, long, top_number, some_number, is_top, is_some_number, is_length, name_of, parts_of_name, has_no_fault, name, config, tuple, word}
+use Rattle.qc_codec.specs.Fields.{Layout, half, long, top_number, some_number, is_top, is_some_number, is_length, name_of, parts_of_name, has_no_fault, name, datum, config, tuple, word}
 use Rattle.qc_codec.proofs.Exact.{IsExact, exact_byte, exact_half, exact_word, exact_long, exact_run, exact_pair, exact_as, exact_only, exact_marked, exact_times}
 
 pub exact_top_number : IsExact top_number
@@ -39,6 +40,13 @@ exact_name least = exact_as name_of parts_of_name Any _ (exact_parts least) back
         let same : length (p.1.0 ∷ p.1.1) ≡ p.0 = omega (arith, some, rest) in
         (ap (λ (k : ℕ). (k, p.1)) same, tt)
 
+number_back : (v : Datum) → Number (number_of v) ≡ v
+number_back (Number n) = refl
+
+pub exact_datum : IsExact datum
+unfolding datum
+exact_datum = exact_as Number number_of Any long exact_long (λ v fits any. number_back v) (λ n fits. (refl, tt))
+
 pub exact_config : (layout : Layout) → IsExact (config layout)
 unfolding config
 exact_config layout =
@@ -50,5 +58,5 @@ pub exact_tuple : (layout : Layout) → IsExact (tuple layout)
 unfolding tuple
 exact_tuple layout =
     exact_as _ _ Any _
-    (exact_pair long _ exact_long (λ version. exact_pair long _ exact_long (λ value. exact_pair long _ exact_long (λ generation. exact_config layout))))
+    (exact_pair long _ exact_long (λ version. exact_pair datum _ exact_datum (λ value. exact_pair long _ exact_long (λ generation. exact_config layout))))
     (λ t fits any. refl) (λ p fits. (refl, tt))

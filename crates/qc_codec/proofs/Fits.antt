@@ -1,6 +1,6 @@
 -- What fits a form has the lengths that its writer wants, and what is in the range of its types fits.
 use mathlib.Core.Bool.{true≢false}
-use Rattle.std.proofs.Common.{◌≡◌, ℕ, suc, ◌/◌, ◌%◌, ◌^◌, ◌<◌, ◌≤◌, true, List, [], ◌∷◌, length, refl, sym, ap, arith}
+use Rattle.std.proofs.Common.{◌≡◌, ℕ, suc, ◌/◌, ◌%◌, ◌^◌, ◌<◌, ◌≤◌, true, List, [], ◌∷◌, length, refl, sym, subst, ap, arith}
 use Rattle.std.specs.Prelude.{Option, None, Some, nat_le, nat_lt, is_none, slice_index}
 use Rattle.std.specs.List.{All}
 use Rattle.std.proofs.lemmas.Bool.{and_parts, and_from, leb-true, ltb-true, le-leb, lt-ltb}
@@ -8,6 +8,7 @@ use Rattle.std.proofs.lemmas.List.Elements.{All-nil, All-cons, All-head, All-tai
 use Rattle.qc_names.specs.Name.{longest}
 use Rattle.qc_config.proofs.Faults.{legal_unless_fault}
 use Rattle.qc_config.specs.Config.{Voting, IsLegal, fault, votes_of}
+use Rattle.qc_config.specs.Val.{Datum, number_of}
 use Rattle.qc_config.specs.declared.config.BadConfig.{BadConfig}
 use Rattle.qc_config.specs.declared.tuple.Op.{Op}
 use Rattle.qc_config.specs.declared.tuple.Op.TheVariants.{Get, PutData, PutConfig}
@@ -21,7 +22,7 @@ use Rattle.qc_codec.specs.declared.record.BaseRecord.{BaseRecord}
 use Rattle.qc_codec.specs.declared.record.Made.{Made}
 use Rattle.qc_codec.specs.declared.record.LedgerRecord.TheVariants as ledger_record
 use Rattle.qc_codec.specs.Form.{byte, only}
-use Rattle.qc_codec.specs.Fields.{Layout, format_1, half, word, long, name, config, tuple, is_length, is_top, some_number, IsNumbered}
+use Rattle.qc_codec.specs.Fields.{Layout, format_1, half, word, long, name, datum, config, tuple, is_length, is_top, some_number, IsNumbered}
 use Rattle.qc_codec.specs.Bodies.{HasLengths, is_between, is_code, code_of, label, row, table, making, granted, grant, folded, base, below, top, ledger}
 
 pub config_votes : (layout : Layout) (c : Voting) → (config layout).fits c → length c.votes ≡ layout.copies
@@ -191,7 +192,12 @@ pub config_fits : (copies : ℕ) (c : Voting) → length c.votes ≡ copies → 
 unfolding config half
 config_fits copies c same none range = ((((same, All-from_get_or (λ v. v < 256) c.votes 0 range.votes), (range.read, range.write)), tt), ap is_none none)
 
-pub tuple_fits : (copies : ℕ) (t : Tuple) → t.version < 2 ^ 64 → t.value < 2 ^ 64 → t.generation < 2 ^ 64 → (config (format_1 copies)).fits t.config → (tuple (format_1 copies)).fits t
+-- a value whose number eight bytes hold has a spelling
+pub number_fits : (v : Datum) (n : ℕ) → n ≡ number_of v → n < 2 ^ 64 → datum.fits v
+unfolding datum long
+number_fits v n is small = (subst (λ k. k < 2 ^ 64) is small, tt)
+
+pub tuple_fits : (copies : ℕ) (t : Tuple) → t.version < 2 ^ 64 → datum.fits t.value → t.generation < 2 ^ 64 → (config (format_1 copies)).fits t.config → (tuple (format_1 copies)).fits t
 unfolding tuple long
 tuple_fits copies t version value generation fits = ((version, (value, (generation, fits))), tt)
 

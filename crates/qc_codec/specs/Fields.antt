@@ -4,6 +4,7 @@ use Rattle.std.specs.Int.{w16, w32, w64}
 use Rattle.std.specs.List.{All}
 use Rattle.qc_names.specs.Name.{longest}
 use Rattle.qc_config.specs.Config.{Voting, fault}
+use Rattle.qc_config.specs.Val.{Datum, Number, number_of}
 use Rattle.qc_config.specs.declared.tuple.Tuple.{Tuple}
 use Rattle.qc_event.specs.History.{Name}
 use Rattle.qc_codec.specs.Form.{Form, Any, byte, number, run, pair, as_another, only, marked, times}
@@ -64,7 +65,11 @@ abbrev pub IsNumbered : Name → Type 0
 IsNumbered [] = ⊥
 IsNumbered (top ∷ rest) = (0 < top / 2 ^ 32) × (0 < top % 2 ^ 32) × All (λ n. 0 < n) rest
 
--- CONFIGURATIONS AND TUPLES
+-- VALUES, CONFIGURATIONS AND TUPLES
+
+-- a value, which is a number in eight bytes
+unfoldable pub datum : Form Datum
+datum = as_another Number number_of Any long
 
 abbrev pub has_no_fault : Voting → Bool
 has_no_fault c = is_none (fault c.votes c.read c.write)
@@ -78,4 +83,4 @@ config layout = only has_no_fault
 unfoldable pub tuple : Layout → Form Tuple
 tuple layout = as_another (λ p. record { version = p.0; value = p.1.0; generation = p.1.1.0; config = p.1.1.1 })
     (λ (t : Tuple). (t.version, (t.value, (t.generation, t.config)))) Any
-    (pair long (λ version. pair long (λ value. pair long (λ generation. config layout))))
+    (pair long (λ version. pair datum (λ value. pair long (λ generation. config layout))))

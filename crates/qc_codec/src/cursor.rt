@@ -9,7 +9,7 @@ ghost use Rattle.qc_codec.specs.Gives.{Takes, Reads};
 ghost use Rattle.qc_codec.specs.declared.fault.CodecNo.TheVariants.{Bad};
 
 use crate::fault::CodecNo;
-use qc_config::{Config, Tuple};
+use qc_config::{Config, Tuple, Val};
 use qc_names::{LONGEST, Name};
 
 /// The first number past the half of a top's number that counts tops.
@@ -134,6 +134,15 @@ impl<'a> Cursor<'a> {
         self.steps(&Name::top(top), count - 1)
     }
 
+    /// A value.
+    #[tactic(auto, unfolding(crate::specs::Fields::datum))]
+    pub fn value(&mut self) -> Result<Val, CodecNo>
+        ensures taken { Reads field.datum result self.old self.new }
+        ensures only_bad { IfErr result (λ e. e ≡ Bad) }
+    {
+        Ok(Val::number(self.long()?))
+    }
+
     /// A legal configuration for so many copies.
     #[tactic(auto, unfolding(crate::specs::Fields::config))]
     pub fn config(&mut self, copies: u8) -> Result<Config, CodecNo>
@@ -163,7 +172,7 @@ impl<'a> Cursor<'a> {
         ensures only_bad { IfErr result (λ e. e ≡ Bad) }
     {
         let version = self.long()?;
-        let value = self.long()?;
+        let value = self.value()?;
         let generation = self.long()?;
         let config = self.config(copies)?;
         Ok(Tuple {

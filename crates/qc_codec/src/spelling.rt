@@ -4,7 +4,7 @@ ghost use Rattle.qc_codec.specs.Fields as field;
 ghost use Rattle.qc_codec.specs.Fields.{format_1, IsNumbered};
 ghost use Rattle.qc_codec.specs.Gives.{Puts};
 
-use qc_config::{Config, Tuple};
+use qc_config::{Config, Tuple, Val};
 use qc_event::Name;
 use std::alloc::AllocError;
 
@@ -30,6 +30,15 @@ pub fn put_long(out: &mut Vec<u8>, number: u64) -> Result<(), AllocError>
     ensures { Puts field.long number result out.old.items out.new.items }
 {
     out.extend_from_slice(&number.to_be_bytes())
+}
+
+/// Writes a value behind bytes.
+#[tactic(auto, unfolding(crate::specs::Fields::datum))]
+pub fn put_value(out: &mut Vec<u8>, value: &Val) -> Result<(), AllocError>
+    ensures written { Puts field.datum value.now result out.old.items out.new.items }
+    ensures fits { field.datum.fits value.now }
+{
+    put_long(out, value.as_number())
 }
 
 /// Writes a configuration for so many copies behind bytes.
@@ -59,7 +68,7 @@ pub fn put_tuple(out: &mut Vec<u8>, copies: u8, tuple: &Tuple) -> Result<(), All
     ensures fits { OnOk result (0 < copies → (field.tuple (format_1 copies)).fits tuple.now) }
 {
     put_long(out, tuple.version)?;
-    put_long(out, tuple.value)?;
+    put_value(out, &tuple.value)?;
     put_long(out, tuple.generation)?;
     put_config(out, copies, &tuple.config)
 }

@@ -11,7 +11,7 @@ ghost use Rattle.qc_codec.specs.declared.fault.CodecNo.TheVariants.{Bad};
 use crate::cursor::Cursor;
 use crate::fault::CodecNo;
 use crate::record::Made;
-use crate::spelling::{put_config, put_long};
+use crate::spelling::{put_config, put_value};
 use qc_event::{Label, Row, Rows, Table};
 use std::alloc::{AllocError, Global};
 
@@ -86,7 +86,7 @@ impl Cursor<'_> {
         ensures { Reads (body.row (format_1 copies)) result self.old self.new }
     {
         let name = self.label(alloc)?;
-        let start = self.long()?;
+        let start = self.value()?;
         let config = self.config(copies)?;
         Ok(Row {
             name,
@@ -182,7 +182,7 @@ fn put_row(out: &mut Vec<u8>, copies: u8, row: &Row) -> Result<(), AllocError>
     ensures { Puts (body.row (format_1 copies)) row.now result out.old.items out.new.items }
 {
     put_label(out, &row.name)?;
-    put_long(out, row.start)?;
+    put_value(out, &row.start)?;
     put_config(out, copies, &row.config)
 }
 

@@ -5,8 +5,10 @@ mod config;
 mod copies;
 mod law;
 mod tuple;
+mod val;
 
 pub use config::{BadConfig, Config};
 pub use copies::Copies;
 pub use law::marks_are_sets;
-pub use tuple::{Op, Tuple, Val};
+pub use tuple::{Op, Tuple};
+pub use val::Val;

@@ -3,9 +3,7 @@ ghost use Rattle.std.specs.Prelude.{◌≡◌};
 ghost use Rattle.qc_config.specs.Tuple.{after};
 
 use crate::config::Config;
-
-/// A record's value.
-pub type Val = u64;
+use crate::val::Val;
 
 /// What a copy keeps of a record: its value with a version number, and the configuration that the
 /// copy knows with a generation number (Gifford's versioned copies).

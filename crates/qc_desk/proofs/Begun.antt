@@ -19,6 +19,9 @@ not_root setting past n b legal is = let was = was_begun setting past n b legal 
     by_name [] older may = absurd may
     by_name (x ∷ r) older may = omega arith
 
+pub user_nonroot : (setting : Setting) (past : Past) (n : Name) → Legal setting past → Started past n (λ b. IsUser b.kind) → 0 < length n
+user_nonroot setting past n legal began = let there = some_there (start past n) (λ b. IsUser b.kind) began in not_root setting past n there.0 legal there.1
+
 -- a name under which a child may stand is not the root, and has room for a further number
 pub record NameHasRoom (n : Name) : Type 0 where
   pub below_a_top : 0 < length n

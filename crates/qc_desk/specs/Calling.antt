@@ -55,6 +55,15 @@ Refused against v w why = Looked v w × Refuses against w.seen why
 abbrev pub Wanted : View → View → Short → Type 0
 Wanted v w short = Looked v w × IsExactWant w.seen short
 
+-- A pass has seen more, and is else as it was.
+pub record SeesMore (old new : View) : Type 0 where
+  pub older : IsOlder old.seen new.seen
+  pub mine : new.mine ≡ old.mine
+  pub number : new.number ≡ old.number
+  pub live : new.live ≡ old.live
+  pub out : new.out ≡ old.out
+  pub kin : new.kin ≡ old.kin
+
 -- a pass or a note was shown a history; where it is no note, others made what is new
 abbrev pub Shown : View → View → Type 0
 Shown v w = IsOlder v.seen w.seen × (w ≡ knows w.seen v) × (v.live ≡ true → IsSince v.number v.seen w.seen)

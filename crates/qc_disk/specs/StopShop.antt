@@ -1,19 +1,14 @@
 -- The parts of a shop of disks that stop, and the disk that it gives.
-use Rattle.std.specs.Prelude.{◌≡◌, ℕ, List, [], map, Some, Vec, slice_index_or, slice_set}
-use Rattle.std.specs.declared.alloc.Global.{Global}
+use Rattle.std.specs.Prelude.{◌≡◌, ℕ, List, [], map, Some, slice_index_or, slice_set, vec_items}
 use Rattle.qc_disk.specs.Given.{given_list}
 use Rattle.qc_disk.specs.Shop.{ShopView}
 use Rattle.qc_disk.specs.StopDisk.{stop_acts, stop_bytes, stop_first, stop_refused}
 use Rattle.qc_disk.specs.declared.stop.StopDisk.{StopDisk}
 use Rattle.qc_disk.specs.declared.shop.stop.StopShop.{StopShop}
 
--- the bytes of each
-abbrev pub bytes_in : List (Vec ℕ Global) → List (List ℕ)
-bytes_in disks = map (λ disk. disk.items) disks
-
 -- the bytes of the disks that it has, by their numbers
 abbrev pub stop_disks : StopShop → List (List ℕ)
-stop_disks shop = bytes_in shop.disks.items
+stop_disks shop = map vec_items shop.disks.items
 
 -- the bytes of the disk that it would give at a number: of one that it has not, none
 abbrev pub offered : StopShop → ℕ → List ℕ

@@ -2,6 +2,7 @@
 -- reconfiguration; and entries that may not come next.
 use Rattle.std.proofs.Common.{ℕ, List, [], ◌∷◌, ◌++◌, reverse, rules}
 use Rattle.qc_config.specs.Config.{Voting}
+use Rattle.qc_config.specs.Val.{Number}
 use Rattle.qc_config.specs.declared.tuple.Op.{Op}
 use Rattle.qc_config.specs.declared.tuple.Op.TheVariants.{Get, PutData, PutConfig}
 use Rattle.qc_config.specs.declared.tuple.Tuple.{Tuple}
@@ -23,7 +24,7 @@ abbrev pub one : Voting
 one = record { votes = 1 ∷ []; read = 1; write = 1 }
 
 abbrev pub tuple : ℕ → ℕ → Tuple
-tuple version value = record { version = version; value = value; generation = 0; config = one }
+tuple version value = record { version = version; value = Number value; generation = 0; config = one }
 
 -- one copy of one record, which starts with this version and value 0
 abbrev pub setting_at : ℕ → Setting
@@ -66,9 +67,9 @@ ends n = client (event.Ready n) ∷ record { seat = ledger_seat; event = event.E
 abbrev pub write : List Entry
 write =
     start (top_name 1 1) (kind.User 0 0)
-    ∷ start (number_in 1 1 ∷ 1 ∷ []) (kind.Write 0 5)
+    ∷ start (number_in 1 1 ∷ 1 ∷ []) (kind.Write 0 (Number 5))
     ∷ get (number_in 1 1 ∷ 1 ∷ 1 ∷ []) (tuple 0 0)
-    ++ put (number_in 1 1 ∷ 1 ∷ 2 ∷ []) (PutData 1 5) (tuple 1 5)
+    ++ put (number_in 1 1 ∷ 1 ∷ 2 ∷ []) (PutData 1 (Number 5)) (tuple 1 5)
     ++ commit (number_in 1 1 ∷ 1 ∷ []) answer.Nothing
     ∷ []
 
@@ -87,15 +88,15 @@ reading =
     ∷ start (number_in 1 2 ∷ 1 ∷ []) (kind.Read 0)
     ∷ get (number_in 1 2 ∷ 1 ∷ 1 ∷ []) (tuple 1 5)
 
-legal_read : Legal setting (reverse (reading ++ commit (number_in 1 2 ∷ 1 ∷ []) (answer.Value 5) ∷ []))
+legal_read : Legal setting (reverse (reading ++ commit (number_in 1 2 ∷ 1 ∷ []) (answer.Value (Number 5)) ∷ []))
 legal_read = search rules
 
 -- a reader answers no other value
-no_other_value : Allowed setting (reverse reading) (commit (number_in 1 2 ∷ 1 ∷ []) (answer.Value 0)) → ⊥
+no_other_value : Allowed setting (reverse reading) (commit (number_in 1 2 ∷ 1 ∷ []) (answer.Value (Number 0))) → ⊥
 no_other_value may = absurd (let same = may.answers in cc)
 
 -- nor does it answer before it has collected enough
-no_early_answer : Allowed setting (start (number_in 1 1 ∷ 1 ∷ []) (kind.Read 0) ∷ start (top_name 1 1) (kind.User 0 0) ∷ []) (commit (number_in 1 1 ∷ 1 ∷ []) (answer.Value 0)) → ⊥
+no_early_answer : Allowed setting (start (number_in 1 1 ∷ 1 ∷ []) (kind.Read 0) ∷ start (top_name 1 1) (kind.User 0 0) ∷ []) (commit (number_in 1 1 ∷ 1 ∷ []) (answer.Value (Number 0))) → ⊥
 no_early_answer may = absurd (let enough = may.complete in cc)
 
 -- A RECONFIGURATION
@@ -104,13 +105,13 @@ abbrev two : Voting
 two = record { votes = 2 ∷ []; read = 1; write = 2 }
 
 abbrev moved : Tuple
-moved = record { version = 0; value = 0; generation = 1; config = two }
+moved = record { version = 0; value = Number 0; generation = 1; config = two }
 
 legal_reconfigured : Legal setting (reverse (
     start (top_name 1 1) (kind.User 0 0)
     ∷ start (number_in 1 1 ∷ 1 ∷ []) (kind.Reconf 0 two)
     ∷ get (number_in 1 1 ∷ 1 ∷ 1 ∷ []) (tuple 0 0)
-    ++ put (number_in 1 1 ∷ 1 ∷ 2 ∷ []) (PutData 0 0) (tuple 0 0)
+    ++ put (number_in 1 1 ∷ 1 ∷ 2 ∷ []) (PutData 0 (Number 0)) (tuple 0 0)
     ++ put (number_in 1 1 ∷ 1 ∷ 3 ∷ []) (PutConfig 1 two) moved
     ++ commit (number_in 1 1 ∷ 1 ∷ []) (answer.Generation 1)
     ∷ ends (top_name 1 1)))

@@ -1,6 +1,7 @@
 -- Worked histories that abort, over one copy with one vote, which are legal by computation.
 use Rattle.std.proofs.Common.{◌≡◌, List, [], ◌∷◌, ◌++◌, reverse, refl, rules, replicate}
 use Rattle.std.specs.Prelude.{false, Some, None}
+use Rattle.qc_config.specs.Val.{Number}
 use Rattle.qc_config.specs.declared.tuple.Op.TheVariants.{Get}
 use Rattle.qc_event.specs.declared.event.Cause.TheVariants as cause
 use Rattle.qc_event.specs.declared.event.Entry.{Entry}
@@ -107,7 +108,7 @@ no_lack_while_waiting may = absurd (let nothing_open = may.licensed.0.failed.not
 
 legal_last : Legal (setting_at 18446744073709551615) (reverse (
     start (top_name 1 1) (kind.User 0 0)
-    ∷ start (number_in 1 1 ∷ 1 ∷ []) (kind.Write 0 5)
+    ∷ start (number_in 1 1 ∷ 1 ∷ []) (kind.Write 0 (Number 5))
     ∷ get (number_in 1 1 ∷ 1 ∷ 1 ∷ []) (tuple 18446744073709551615 0)
     ++ abort (number_in 1 1 ∷ 1 ∷ []) cause.Last
     ∷ []))

@@ -1,11 +1,12 @@
 -- What a run starts from: its tuples are a list, by copy, of lists, by record.
 use Rattle.std.specs.Prelude.{ℕ, ◌≡◌, ◌<◌, ◌≤◌, List, [], length, slice_get, slice_index_or, All, MatchOption}
 use Rattle.qc_config.specs.Config.{Voting, IsLegal, no_config}
+use Rattle.qc_config.specs.Val.{Number}
 use Rattle.qc_config.specs.declared.tuple.Tuple.{Tuple}
 
 -- the tuple where there is none
 abbrev pub no_tuple : Tuple
-no_tuple = record { version = 0; value = 0; generation = 0; config = no_config }
+no_tuple = record { version = 0; value = Number 0; generation = 0; config = no_config }
 
 -- a copy and a record of the base
 abbrev pub IsWithin : List (List Tuple) → ℕ → ℕ → Type 0

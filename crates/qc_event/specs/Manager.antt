@@ -3,6 +3,7 @@ use Rattle.std.specs.Prelude.{ℕ, ◌≡◌, ◌+◌, ◌-◌, ◌^◌, ◌==�
 use Rattle.std.specs.List.{list_any, list_all, range_with_len}
 use Rattle.std.specs.Option.{option_and_then}
 use Rattle.qc_config.specs.Config.{Voting, votes_of, holds_read, holds_write}
+use Rattle.qc_config.specs.Val.{Datum, Number}
 use Rattle.qc_config.specs.declared.tuple.Tuple.{Tuple}
 use Rattle.qc_config.specs.declared.tuple.Op.{Op}
 use Rattle.qc_config.specs.declared.tuple.Op.TheVariants.{Get, PutData, PutConfig}
@@ -135,7 +136,7 @@ newest past first m = fold newer (record { generation = 0; config = first }) (re
 -- a value and its version
 pub record Greatest : Type 0 where
   pub version : ℕ
-  pub value : ℕ
+  pub value : Datum
 
 -- the greater of two, the one before where their versions are equal
 abbrev pub greater : Greatest → Tuple → Greatest
@@ -143,7 +144,7 @@ greater best t = if nat_lt best.version t.version then record { version = t.vers
 
 -- the value of the greatest version among tuples; where there are none, no rule asks for it
 abbrev pub greatest_among : List Tuple → Greatest
-greatest_among [] = record { version = 0; value = 0 }
+greatest_among [] = record { version = 0; value = Number 0 }
 greatest_among (first ∷ tuples) = fold greater (record { version = first.version; value = first.value }) tuples
 
 -- a manager's value of the greatest version among those replied; the earliest of equals

@@ -2,6 +2,7 @@
 use Rattle.std.specs.Prelude.{ℕ, ◌≡◌, ◌+◌, ◌<◌, ◌==◌, IsTrue, nat_lt, List, [], ◌∷◌, length, map, max, slice_index_or, slice_get, All, None, Some, MatchOption}
 use Rattle.std.specs.List.{last_or}
 use Rattle.qc_config.specs.Config.{Voting, IsLegal, holds_write, no_config}
+use Rattle.qc_config.specs.Val.{Datum}
 use Rattle.qc_config.specs.declared.tuple.Tuple.{Tuple}
 use Rattle.qc_event.specs.Base.{Setting, first_of, no_tuple}
 
@@ -11,7 +12,7 @@ greatest_version [] = 0
 greatest_version (t ∷ tuples) = max t.version (greatest_version tuples)
 
 -- the tuple has the value, where it has the version
-abbrev pub HasValue : ℕ → ℕ → Tuple → Type 0
+abbrev pub HasValue : ℕ → Datum → Tuple → Type 0
 HasValue version value t = t.version ≡ version → t.value ≡ value
 
 -- the configuration passed on to the next: the copies with a greater generation hold a write quorum of it
@@ -19,7 +20,7 @@ abbrev pub IsPassedOn : List Tuple → List Voting → ℕ → Type 0
 IsPassedOn tuples configs g = IsTrue (holds_write (slice_index_or configs g no_config) (map (λ (t : Tuple). nat_lt g t.generation) tuples))
 
 -- The copies carry a value of a record, by the list of its configurations from the first to the newest.
-pub record Carries (first : Voting) (tuples : List Tuple) (value : ℕ) : Type 0 where
+pub record Carries (first : Voting) (tuples : List Tuple) (value : Datum) : Type 0 where
   pub configs : List Voting
   pub newest : Voting
   pub begins : slice_get configs 0 ≡ Some first
@@ -35,5 +36,5 @@ abbrev pub column : List (List Tuple) → ℕ → List Tuple
 column base rec = map (λ row. slice_index_or row rec no_tuple) base
 
 -- The start tuples carry a map: a value for each record.
-abbrev pub IsSound : Setting → List ℕ → Type 0
+abbrev pub IsSound : Setting → List Datum → Type 0
 IsSound setting values = (rec : ℕ) → rec < length setting.firsts → MatchOption (slice_get values rec) ⊥ (Carries (first_of setting rec) (column setting.base rec))

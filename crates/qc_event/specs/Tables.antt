@@ -1,6 +1,7 @@
 -- What a table says of a run over it.
 use Rattle.std.specs.Prelude.{ℕ, List, map, replicate}
 use Rattle.qc_config.specs.Config.{Voting}
+use Rattle.qc_config.specs.Val.{Datum}
 use Rattle.qc_config.specs.declared.tuple.Tuple.{Tuple}
 use Rattle.qc_event.specs.Base.{Setting}
 use Rattle.qc_event.specs.declared.table.Row.{Row}
@@ -11,7 +12,7 @@ abbrev pub first_configs : Table → List Voting
 first_configs table = map (λ (r : Row). r.config) table.records
 
 -- the value with which each record starts
-abbrev pub first_values : Table → List ℕ
+abbrev pub first_values : Table → List Datum
 first_values table = map (λ (r : Row). r.start) table.records
 
 -- the setting of a run over a table that starts from these tuples

@@ -2,7 +2,7 @@
 ghost use Rattle.std.specs.Prelude.{◌≡◌, [], length, map, slice_index_or};
 ghost use Rattle.qc_event.specs.Base as words;
 
-use qc_config::{Config, Tuple};
+use qc_config::{Config, Tuple, Val};
 use std::marker::Model;
 
 /// The tuples with which a run starts, for each copy and record.
@@ -53,7 +53,7 @@ impl Base {
             Some(tuple) => *tuple,
             None => Tuple {
                 version: 0,
-                value: 0,
+                value: Val::number(0),
                 generation: 0,
                 config: Config::none(),
             },

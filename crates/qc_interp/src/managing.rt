@@ -1,5 +1,6 @@
 //! Steps that are managers.
 ghost use Rattle.std.specs.Prelude.{◌≡◌, ◌<◌, length, IfOk, IfErr};
+ghost use Rattle.qc_config.specs.Val.{Number};
 ghost use Rattle.qc_event.specs.Wants.{IsWant};
 ghost use Rattle.qc_event.specs.declared.event.Answer.{Answer};
 ghost use Rattle.qc_event.specs.declared.event.Kind.TheVariants as kind;
@@ -31,22 +32,22 @@ pub(crate) enum Change {
 
 impl Change {
     // The value, changed.
-    fn applied(self, value: u64) -> u64
-        ensures { result ≡ changed self value }
+    fn applied(self, value: u64) -> Val
+        ensures { result ≡ Number (changed self value) }
     {
-        match self {
+        Val::number(match self {
             Change::Add(amount) => value.wrapping_add(amount),
             Change::Sub(amount) => value.wrapping_sub(amount),
-        }
+        })
     }
 }
 
-// The value that a read answered. No read answers anything else.
-fn value_in(answer: &Answer) -> Val
+// The number that a read answered. No read answers anything else.
+fn value_in(answer: &Answer) -> u64
     ensures { result ≡ plans.value_of answer.now }
 {
     match answer {
-        Answer::Value(value) => *value,
+        Answer::Value(value) => value.as_number(),
         _ => 0,
     }
 }

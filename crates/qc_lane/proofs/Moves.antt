@@ -2,6 +2,7 @@
 use Rattle.std.proofs.Common.{◌≡◌, ◌≢◌, ◌⊎◌, ℕ, zero, suc, ◌+◌, ◌≤◌, true, false, ◌==◌, cond, List, [], ◌∷◌, ◌++◌, length, map, flat_map, set, refl, sym, ap, ◌∙◌, subst, inl, inr, ⊎_elim, true≢false, arith, append_assoc, length-append}
 use mathlib.Core.Option.{Option, some, none, some-ne-none, some-injective}
 use lib.ListN.{get_elem?}
+use Rattle.std.proofs.lemmas.Bool.{eq-eqb}
 use Rattle.std.proofs.lemmas.List.Elements.{filter-append}
 use Rattle.std.proofs.lemmas.List.{flat_map_more, append-nil}
 use Rattle.crossbeam_queue.specs.Fifo.{Pushes, Pops, Forks, Merges, Learns}
@@ -13,12 +14,9 @@ use Rattle.qc_lane.specs.Lanes.{of, request, numbered, taker, putter, spent, sea
 
 -- REQUESTS
 
-same_number : (s : ℕ) → (s == s) ≡ true
-same_number s = grind arith
-
 of_own : (s k : ℕ) (asks : List Ask) → of s (numbered s k asks) ≡ numbered s k asks
 of_own s k [] = refl
-of_own s k (a ∷ more) = rw (same_number s) (ap (λ (l : List Request). request s k a ∷ l) (of_own s (k + 1) more))
+of_own s k (a ∷ more) = rw (eq-eqb s s refl) (ap (λ (l : List Request). request s k a ∷ l) (of_own s (k + 1) more))
 
 of_other : (s t k : ℕ) (asks : List Ask) → (t == s) ≡ false → of s (numbered t k asks) ≡ []
 of_other s t k [] e = refl
@@ -80,7 +78,7 @@ none_still writer sent from to holder held s f = (
 
 -- the request of a session is among those of the session
 pub kept : (r : Request) (l : List Request) → of r.from (r ∷ l) ≡ r ∷ of r.from l
-kept r l = rw (same_number r.from) refl
+kept r l = rw (eq-eqb r.from r.from refl) refl
 
 -- the number that a note of one's own session tells, and else one's own
 told_known : (s t k n a b : ℕ) → (s ≡ t → a ≡ b) → k ≤ a → n ≤ b → cond (s == t) k n ≤ b

@@ -1,15 +1,15 @@
 -- What the ledger's pass goes on to know.
-use Rattle.std.proofs.Common.{◌≡◌, ℕ, [], ◌∷◌, Bool, true, false, refl, sym, ap, ap₂, ◌∙◌, subst, cond}
+use Rattle.std.proofs.Common.{◌≡◌, ℕ, [], ◌∷◌, Bool, true, false, refl, sym, ap, ap₂, ◌∙◌, cond}
 use Rattle.std.specs.Prelude.{IsTrue, is_some, Option, None, Result, Ok, Err, OnOk, IfErr, ◌==◌, length}
 use Rattle.std.specs.Bool.{OnFalse}
 use Rattle.std.specs.Option.{option_or}
 use Rattle.qc_event.specs.declared.event.Entry.{Entry}
 use Rattle.qc_event.specs.declared.event.Event.TheVariants as event
 use Rattle.qc_event.specs.declared.event.Why.{Why}
-use Rattle.qc_event.specs.History.{Name, Past, earliest, end, end_in, is_ready, ready_in}
+use Rattle.qc_event.specs.History.{Name, Past, earliest, end, end_in, is_ready}
 use Rattle.qc_event.specs.declared.short.Short.{Short}
 use Rattle.qc_desk.specs.declared.view.View.{View}
-use Rattle.qc_desk.specs.Calling.{Entered, Shown, Wanted}
+use Rattle.qc_desk.specs.Calling.{Entered, Shown, Wanted, SeesMore}
 use Rattle.qc_desk.specs.Entries.{IsOlder, entries_of, entry}
 use Rattle.qc_desk.specs.Refusing.{against_nothing}
 use Rattle.qc_event.specs.Base.{Setting}
@@ -17,14 +17,11 @@ use Rattle.qc_event.specs.Legal.{Legal}
 use Rattle.qc_event.specs.Seats.{ledger_seat}
 use Rattle.qc_event.proofs.OneEntry.{no_some, none_before, not_some, some_or_none}
 use Rattle.qc_event.proofs.RootAndTops.{ready_started}
-use Rattle.qc_event.proofs.StillTold.{some_stays}
 use Rattle.qc_desk.proofs.Finishing.{ended_by_ledger}
+use Rattle.qc_desk.proofs.Listed.{ready_stays}
 use Rattle.qc_desk.proofs.Seers.{older_trans}
-use Rattle.qc_ledger.specs.Entered.{MayFinish, SeesMore}
+use Rattle.qc_ledger.specs.Entered.{MayFinish}
 use Rattle.qc_ledger.specs.Since.{IsNext}
-
-pub ready_stays : (before now : Past) (top : Name) → IsOlder before now → IsTrue (is_ready before top) → IsTrue (is_ready now top)
-ready_stays before now top older ready = subst (λ (p : Past). is_ready p top ≡ true) (sym older.1) (some_stays (λ e. ready_in top e.event) older.0 before ready)
 
 -- a pass that has seen more, and ended no more
 pub may_still : (old new : View) (top : Name) → new.mine ≡ old.mine → IsOlder old.seen new.seen → MayFinish old top → MayFinish new top

@@ -11,7 +11,7 @@ use Rattle.qc_codec.specs.Ledger.{commit_of}
 use Rattle.qc_event.specs.History.{Name, Past, end, every, is_ready}
 use Rattle.qc_event.specs.Seats.{ledger_seat}
 use Rattle.qc_desk.specs.declared.view.View.{View}
-use Rattle.qc_desk.specs.Entries.{IsOlder, entry}
+use Rattle.qc_desk.specs.Entries.{entry}
 use Rattle.qc_journal.specs.Journal.{Keeps, in_hand}
 use Rattle.qc_journal.specs.declared.journal.State.{State}
 use Rattle.qc_journal.specs.declared.journal.State.TheVariants as state
@@ -101,15 +101,6 @@ abbrev pub IsReviveNo : LedgerNo → Type 0
 IsReviveNo (no.Image bad) = ⊥
 IsReviveNo (no.Full place) = ⊥
 IsReviveNo _ = Unit {0}
-
--- A pass has seen more, and is else as it was.
-pub record SeesMore (old new : View) : Type 0 where
-  pub older : IsOlder old.seen new.seen
-  pub mine : new.mine ≡ old.mine
-  pub number : new.number ≡ old.number
-  pub live : new.live ≡ old.live
-  pub out : new.out ≡ old.out
-  pub kin : new.kin ≡ old.kin
 
 -- An image has the records that some image had when the call began, or these and the one that the call writes.
 pub record GrowsBy (body : List ℕ) (left : List ℕ → Type 0) (image : List ℕ) : Type 0 where

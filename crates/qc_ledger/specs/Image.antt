@@ -2,7 +2,7 @@
 use Rattle.std.specs.Prelude.{ℕ, ◌≡◌, ◌≢◌, ◌+◌, ◌-◌, ◌<◌, ◌^◌, ◌⊎◌, List, [], ◌∷◌, ◌++◌, length, Some}
 use Rattle.qc_event.specs.declared.table.Table.{Table}
 use Rattle.qc_codec.specs.Bodies as body
-use Rattle.qc_codec.specs.Form.{all_of}
+use Rattle.qc_codec.specs.Form.{Form, all_of}
 use Rattle.qc_codec.specs.Ledger.{made_for, past_in, AreInOrder, IsOutOfOrder}
 use Rattle.qc_codec.specs.declared.image.ImageFault.{ImageFault}
 use Rattle.qc_codec.specs.declared.image.ImageFault.TheVariants.{Broken, Grammar, Full, Table as OtherTable, Epoch}
@@ -31,16 +31,24 @@ to_write disk table bodies = made_where_none (made_body disk table) bodies ++ ep
 abbrev pub LAST_EPOCH : ℕ
 LAST_EPOCH = 2 ^ 32 - 1
 
--- the first of these bodies, where there is one, says that a disk of the ledger's was made for a table
+-- the first of these bodies, where there is one, is this record
+abbrev pub BeginWith : {R : Type 0} → Form R → R → List (List ℕ) → Type 0
+BeginWith form made [] = Unit {0}
+BeginWith form made (first ∷ bodies) = all_of form first ≡ Some made
+
+-- it says that a disk of the ledger's was made for a table
 abbrev pub AreMadeFor : ℕ → Table → List (List ℕ) → Type 0
-AreMadeFor disk table [] = Unit {0}
-AreMadeFor disk table (first ∷ bodies) = all_of body.ledger first ≡ Some (ledger_record.Made (made_for disk table))
+AreMadeFor disk table = BeginWith body.ledger (ledger_record.Made (made_for disk table))
 
 -- Of bodies that are written one behind another, behind these, the first that would pass the limit goes to this place.
 abbrev pub IsFull : ℕ → List (List ℕ) → List (List ℕ) → ℕ → Type 0
 IsFull limit bodies [] place = ⊥
 IsFull limit bodies (next ∷ more) place = ((place ≡ length (row bodies)) × IsTooLong place limit next)
     ⊎ ((IsTooLong (length (row bodies)) limit next → ⊥) × IsFull limit (bodies ++ next ∷ []) more place)
+
+-- they all have room behind these
+abbrev pub HaveRoom : ℕ → List (List ℕ) → List (List ℕ) → Type 0
+HaveRoom limit bodies more = (place : ℕ) → IsFull limit bodies more place → ⊥
 
 -- Bodies are a ledger's for a table, in order.
 pub record AreLedgers (disk : ℕ) (table : Table) (bodies : List (List ℕ)) : Type 0 where
@@ -64,4 +72,4 @@ IsFirstFault Has fault image = (bodies : List (List ℕ)) × HasRecords bodies i
 pub record AreMountableAsLedger (disk : ℕ) (table : Table) (limit : ℕ) (bodies : List (List ℕ)) : Type 0 where
   pub ledgers : AreLedgers disk table bodies
   pub epoch : (past_in bodies).epoch < LAST_EPOCH
-  pub room : (place : ℕ) → IsFull limit bodies (to_write disk table bodies) place → ⊥
+  pub room : HaveRoom limit bodies (to_write disk table bodies)

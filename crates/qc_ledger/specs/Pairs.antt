@@ -1,12 +1,11 @@
 -- What the mounting of a pair gives, and what it leaves of each of its disks.
 use Rattle.std.specs.Prelude.{ℕ, ◌⊎◌, Bool, List, Option, IsSome, Result, Ok, Err}
-use Rattle.qc_disk.specs.Disk.{CountsOnce, DiskView, Grows, HasCause, LeavesOnly}
+use Rattle.qc_disk.specs.Disk.{CountsOnce, DiskView, HasCause, LeavesOnly}
 use Rattle.qc_disk.specs.declared.disk.Disk.{Ghosts}
 use Rattle.qc_event.specs.declared.table.Table.{Table}
 use Rattle.qc_codec.specs.declared.image.ImageFault.TheVariants as image
 use Rattle.qc_codec.specs.declared.past.Past.{Past}
-use Rattle.qc_journal.specs.Device.{LeftOrAlike}
-use Rattle.qc_journal.specs.Image.{HasAt}
+use Rattle.qc_journal.specs.Device.{LeftOrAlike, LosesNoRecord}
 use Rattle.qc_journal.specs.Journal.{Keeps, disk_of}
 use Rattle.qc_ledger.specs.Image.{IsLedgerFault}
 use Rattle.qc_ledger.specs.Mounted.{HasSome, MountsLedger, journal_of, records_of}
@@ -34,7 +33,7 @@ module _ (kind : Kind) (who : ℕ) (told spare_told : Option (List ℕ)) (writte
   -- What a mounting leaves of one of both disks at each moment, and what it costs.
   pub record MountsHalf (is_spare : Bool) {D : Type 0} (view : D → DiskView) (Failed : Type 0) (old new : D) : Type 0 where
     pub any_moment : IsSome (view old).content → LeavesOnly view old new (IsHalfLeft is_spare (view old))
-    pub grows : IsSome (view old).content → (index : ℕ) (had : List ℕ) → Grows view old new (HasAt index had)
+    pub grows : IsSome (view old).content → LosesNoRecord view old new
     pub cause : HasCause (view old).faults (view new).faults Failed
     pub counts_once : CountsOnce (view old).faults (view new).faults Failed
 

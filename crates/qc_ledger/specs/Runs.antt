@@ -1,12 +1,13 @@
 -- What a run of calls on a journal leaves, and what it costs.
 use Rattle.std.specs.Prelude.{◌≡◌, ◌≤◌, ◌⊎◌, ℕ, ◌+◌, List, [], ◌∷◌, ◌++◌, Vec}
 use Rattle.std.specs.declared.alloc.Global.{Global}
-use Rattle.qc_disk.specs.Disk.{CountsOnce, FallsAway, Grows, HasCause, LeavesOnly, next}
+use Rattle.qc_disk.specs.Disk.{CountsOnce, FallsAway, HasCause, LeavesOnly, next}
 use Rattle.qc_disk.specs.declared.disk.Disk.{Ghosts}
-use Rattle.qc_journal.specs.Image.{HasAt, HasRecords, bodies_of}
+use Rattle.qc_journal.specs.Device.{LosesNoRecord}
+use Rattle.qc_journal.specs.Image.{HasRecords, bodies_of}
 use Rattle.qc_journal.specs.Journal.{Keeps, disk_of, limit_of, place_of}
 use Rattle.qc_journal.specs.declared.journal.Journal.{Journal}
-use Rattle.qc_ledger.specs.Image.{IsFull}
+use Rattle.qc_ledger.specs.Image.{HaveRoom, IsFull}
 
 -- an image has these records, or these and one more
 abbrev pub HasOrMore : List (List ℕ) → List ℕ → List ℕ → Type 0
@@ -32,7 +33,7 @@ module _ {D : Type 0} {g : Ghosts D} (journal : Journal D g) (bodies : Vec (Vec 
 
   -- others have room behind them
   abbrev pub HaveRoomBehind : List (List ℕ) → Type 0
-  HaveRoomBehind more = (place : ℕ) → IsFullBehind more place → ⊥
+  HaveRoomBehind more = HaveRoom (limit_of journal) (bodies_of bodies.items) more
 
 -- there are these bodies more
 abbrev pub HasMore : Vec (Vec ℕ Global) Global → Vec (Vec ℕ Global) Global → List (List ℕ) → Type 0
@@ -45,7 +46,7 @@ module _ {D : Type 0} {g : Ghosts D} (old new : Journal D g) where
 
   -- of two moments of the run, each image of the later has every record that all images of the earlier have
   abbrev pub LosesNone : Type 0
-  LosesNone = (index : ℕ) (had : List ℕ) → Grows g.view (disk_of old) (disk_of new) (HasAt index had)
+  LosesNone = LosesNoRecord g.view (disk_of old) (disk_of new)
 
   -- images only fall away
   abbrev pub Falls : Type 0

@@ -1,44 +1,27 @@
 -- What a reply tells of one's own request.
-use Rattle.std.proofs.Common.{◌≡◌, true, false, List, [], ◌∷◌, ◌++◌, sym, ap, ◌∙◌, subst, ◌≤◌, arith, length-append}
+use Rattle.std.proofs.Common.{◌≡◌, List, [], ◌∷◌, ◌++◌, sym, ap, ◌∙◌, subst}
 use Rattle.std.specs.Prelude.{Option, None, Some, IfOk, IfSome, Result, Ok, Err, option_to_list, length}
-use Rattle.std.specs.Option.{option_map, option_map_or}
+use Rattle.std.specs.Option.{option_map}
 use Rattle.std.proofs.lemmas.List.Elements.{Contains-append_right}
 use Rattle.std.proofs.Math.Logic.{∥∥₁_map}
-use Rattle.qc_event.specs.Grants.{grant_with}
 use Rattle.qc_event.specs.declared.event.Answered.{Answered}
-use Rattle.qc_event.specs.declared.event.Answered.TheVariants as answered
 use Rattle.qc_event.specs.declared.event.Ask.{Ask}
 use Rattle.qc_event.specs.declared.event.Entry.{Entry}
-use Rattle.qc_event.specs.declared.event.Why.{Why}
-use Rattle.qc_event.specs.declared.event.Why.TheVariants.{Down, Full, Strange}
 use Rattle.qc_event.specs.declared.short.Short.{Short}
-use Rattle.qc_event.specs.History.{Past, Name, Asked, asked, grant_in, limit}
-use Rattle.qc_event.specs.Requests.{is_why, unable_in, was_unable}
-use Rattle.qc_event.proofs.Booleans.{any_right}
-use Rattle.qc_event.proofs.StillTold.{is_stays}
+use Rattle.qc_event.specs.History.{Past, Asked, asked}
 use Rattle.qc_desk.specs.Consulting.{HasAsked}
-use Rattle.qc_desk.specs.Calling.{Shown}
+use Rattle.qc_desk.specs.Calling.{Shown, SeesMore}
 use Rattle.qc_desk.specs.declared.view.View.{View}
 use Rattle.qc_desk.specs.Entries.{IsOlder}
+use Rattle.qc_desk.proofs.Answered.{answered_later}
 use Rattle.qc_desk.proofs.Consulting.{asked_later}
 use Rattle.qc_lane.specs.declared.lane.Request.{Request}
 use Rattle.qc_lane.specs.Ends.{IsLast}
 use Rattle.qc_lane.specs.Lanes.{of}
-use Rattle.qc_mail.specs.Serving.{HasAnswered, SeesMore}
+use Rattle.qc_mail.specs.Serving.{HasAnswered, StandsIn}
 
-unable_still : (newer past : Past) (n : Name) (why : Why) → was_unable past n why ≡ true → was_unable (newer ++ past) n why ≡ true
-unable_still newer past n why h = any_right (λ (e : Entry). option_map_or (is_why why) (unable_in n e.event) false) newer past h
-
-gave_more : (newer past : Past) (ask : Ask) (answer : Answered) → HasAnswered ask.copy past ask answer → HasAnswered ask.copy (newer ++ past) ask answer
-gave_more newer past ask (answered.Granted tuple) h = is_stays (λ e. grant_in ask.access e.event) newer past (record { copy = ask.copy; grant = grant_with ask tuple }) h
-gave_more newer past ask (answered.Blocked holder) h = ∥∥₁_map h (λ t. Contains-append_right newer past _ t)
-gave_more newer past ask (answered.Dead ancestor) h = ∥∥₁_map h (λ t. Contains-append_right newer past _ t)
-gave_more newer past ask answered.Down h = unable_still newer past ask.access Down h
-gave_more newer past ask answered.Full h = unable_still newer past ask.access Full h
-gave_more newer past ask answered.Strange h = unable_still newer past ask.access Strange h
-
-pub gave_later : (seen now : Past) (ask : Ask) (answer : Answered) → IsOlder seen now → HasAnswered ask.copy seen ask answer → HasAnswered ask.copy now ask answer
-gave_later seen now ask answer older h = subst (λ p. HasAnswered ask.copy p ask answer) (sym older.1) (gave_more older.0 seen ask answer h)
+stands_still : (newer past : Past) (e : Entry) → StandsIn past e → StandsIn (newer ++ past) e
+stands_still newer past e there = ∥∥₁_map there (λ t. Contains-append_right newer past e t)
 
 -- two requests of one access in one history are one
 pub one_ask : (now : Past) (a b : Ask) → HasAsked now a → HasAsked now b → a.access ≡ b.access → a ≡ b
@@ -52,7 +35,7 @@ pub own_answer : (seen now mine : Past) (ask own : Ask) (answer : Result Answere
     → IfOk answer (HasAnswered ask.copy seen ask) → IfOk answer (HasAnswered own.copy now own)
 own_answer seen now mine ask own (Ok a) older later asked_it asked_own same h =
     let is : ask ≡ own = one_ask now ask own (asked_later seen now ask older asked_it) (asked_later mine now own later asked_own) same in
-    subst (λ (q : Ask). HasAnswered q.copy now q a) is (gave_later seen now ask a older h)
+    subst (λ (q : Ask). HasAnswered q.copy now q a) is (answered_later StandsIn stands_still seen now ask a older h)
 own_answer seen now mine ask own (Err short) older later asked_it asked_own same h = tt
 
 -- the request that was taken is the last
@@ -66,10 +49,6 @@ pub jobs_last : {P : Type 0} (Q : Request × P → Type 0) (job : Option (Reques
     → IfSome o (λ (q : Request). q.number ≡ length (of q.from old)) → IfSome job (λ j. (told ≡ Some j.0) × Q j) → IfSome job (λ j. IsLast new j.0)
 jobs_last Q None o told old new grown same number is = tt
 jobs_last Q (Some j) o told old new grown same number is = is_last old new o j.0 grown (ap option_to_list (sym is.0) ∙ same) number
-
--- a beginning of a history is no longer
-pub full_too : (seen now : Past) → IsOlder seen now → length now ≤ limit → length seen ≡ limit → length now ≡ limit
-full_too seen now older bounded full = omega (arith, length-append older.0 seen, ap length older.1)
 
 -- a pass that was shown a history has seen more
 pub sees : (v u w : View) → u ≡ v → Shown u w → SeesMore v w

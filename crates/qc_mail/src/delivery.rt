@@ -4,7 +4,8 @@ ghost use Rattle.crossbeam_queue.specs.Passes.{view};
 ghost use Rattle.qc_event.specs.declared.short.Short.TheVariants.{Room};
 ghost use Rattle.qc_event.specs.History.{limit};
 ghost use Rattle.qc_event.specs.Tables.{setting_of};
-ghost use Rattle.qc_mail.specs.Serving.{HasAnswered, SeesMore};
+ghost use Rattle.qc_desk.specs.Calling.{SeesMore};
+ghost use Rattle.qc_mail.specs.Serving.{HasAnswered};
 ghost use Rattle.qc_desk.specs.Consulting.{HasAsked};
 ghost use Rattle.qc_desk.specs.Known.{IsKnown};
 

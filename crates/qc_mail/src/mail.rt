@@ -7,7 +7,8 @@ ghost use Rattle.qc_event.specs.Tables.{setting_of};
 ghost use Rattle.qc_desk.specs.Consulting.{HasAsked};
 ghost use Rattle.qc_desk.specs.Known.{IsKnown};
 ghost use Rattle.qc_mail.specs.Mails.{known_at, put_at, with_sent};
-ghost use Rattle.qc_mail.specs.Serving.{HasAnswered, SeesMore};
+ghost use Rattle.qc_desk.specs.Calling.{SeesMore};
+ghost use Rattle.qc_mail.specs.Serving.{HasAnswered};
 
 use crate::delivery::deliver;
 use crate::letter::{Letter, Reply};

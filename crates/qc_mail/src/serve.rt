@@ -3,7 +3,8 @@ ghost use Rattle.std.specs.Prelude.{◌≡◌, ◌<◌, IfOk, IsErrOf, length};
 ghost use Rattle.qc_event.specs.declared.short.Short.TheVariants.{Room};
 ghost use Rattle.qc_event.specs.History.{limit};
 ghost use Rattle.qc_event.specs.Tables.{setting_of};
-ghost use Rattle.qc_mail.specs.Serving.{HasAnswered, SeesMore};
+ghost use Rattle.qc_desk.specs.Calling.{SeesMore};
+ghost use Rattle.qc_mail.specs.Serving.{HasAnswered};
 ghost use Rattle.qc_desk.specs.Consulting.{HasAsked};
 ghost use Rattle.qc_desk.specs.Known.{IsKnown};
 

@@ -4,6 +4,7 @@ use Rattle.std.specs.Prelude.{◌&&◌, not, is_some, find, filter, filter_map, 
 use Rattle.std.proofs.lemmas.Bool.{true≢false, some_since, false_from_ne_true}
 use Rattle.std.proofs.lemmas.List.Elements.{All-nil}
 use Rattle.qc_config.specs.Config.{Voting}
+use Rattle.qc_config.specs.Val.{Datum}
 use Rattle.qc_event.specs.Base.{Setting, first_of}
 use Rattle.qc_event.specs.declared.event.Answer.TheVariants as answer
 use Rattle.qc_event.specs.declared.event.Ask.{Ask}
@@ -80,7 +81,7 @@ may_collect setting seat past m k rec first legal manages running none same_reco
 read_done : (b : Bool) → b ≡ true → (not (b && false) && (b && true)) ≡ true
 read_done b is = ap (λ c. not (c && false) && (c && true)) is
 
-pub read_answered : (setting : Setting) (seat : ℕ) (before now : Past) (m : Name) (rec : ℕ) (kept : Gathered) (value : ℕ) → HasCollected seat before now m (kind.Read rec) (first_of setting rec) kept → value ≡ (greatest_in (told_in now m Collect)).value → IsAnswered setting seat now m (kind.Read rec) (answer.Value value)
+pub read_answered : (setting : Setting) (seat : ℕ) (before now : Past) (m : Name) (rec : ℕ) (kept : Gathered) (value : Datum) → HasCollected seat before now m (kind.Read rec) (first_of setting rec) kept → value ≡ (greatest_in (told_in now m Collect)).value → IsAnswered setting seat now m (kind.Read rec) (answer.Value value)
 read_answered setting seat before now m rec kept value h is =
     record {
       running = h.goes_on.running;

@@ -4,6 +4,7 @@ use Rattle.std.specs.Prelude.{IsTrue}
 use Rattle.std.proofs.lemmas.Bool.{eq-eqb, ne_eqb}
 use Rattle.std.proofs.lemmas.List.Elements.{All-from_recursion}
 use Rattle.qc_config.specs.Config.{Voting, holds_write}
+use Rattle.qc_config.specs.Val.{Datum}
 use Rattle.qc_config.specs.declared.tuple.Op.TheVariants.{PutData, PutConfig}
 use Rattle.qc_event.specs.Base.{first_of}
 use Rattle.qc_event.specs.declared.event.Answer.TheVariants as answer
@@ -44,7 +45,7 @@ module _ (a now : CarrierView) (m : Name) (rec : ℕ) (new : Voting) (kept : Gat
   pub at_last_generation : (generation : ℕ) → generation ≡ (newest_in first told).generation → generation ≡ 2 ^ 64 - 1 → ManagerIsRefused a.setting a.seat now.seen m reconf mgr.Last
   at_last_generation generation is last = at_last a now m reconf kept h (eq-eqb (newest now.seen first m).generation (2 ^ 64 - 1) (found generation is ∙ last))
 
-  module _ (generation : ℕ) (old : Voting) (version value : ℕ) (generation_is : generation ≡ (newest_in first told).generation) (old_is : old ≡ (newest_in first told).config) (version_is : version ≡ (greatest_in told).version) (value_is : value ≡ (greatest_in told).value) (not_last : generation ≡ 2 ^ 64 - 1 → ⊥) where
+  module _ (generation : ℕ) (old : Voting) (version : ℕ) (value : Datum) (generation_is : generation ≡ (newest_in first told).generation) (old_is : old ≡ (newest_in first told).config) (version_is : version ≡ (greatest_in told).version) (value_is : value ≡ (greatest_in told).value) (not_last : generation ≡ 2 ^ 64 - 1 → ⊥) where
     -- the value as it is, by the new configuration
     abbrev pub moves : Stage
     moves = putting new Values (PutData version value)

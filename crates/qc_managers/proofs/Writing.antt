@@ -2,6 +2,7 @@
 use Rattle.std.proofs.Common.{◌≡◌, ℕ, ◌+◌, ◌^◌, ◌-◌, List, [], ◌∷◌, refl, sym, ap, ◌∙◌}
 use Rattle.std.proofs.lemmas.Bool.{eq-eqb, ne_eqb}
 use Rattle.qc_config.specs.Config.{Voting}
+use Rattle.qc_config.specs.Val.{Datum}
 use Rattle.qc_config.specs.declared.tuple.Op.TheVariants.{PutData}
 use Rattle.qc_event.specs.Base.{first_of}
 use Rattle.qc_event.specs.declared.event.Answer.TheVariants as answer
@@ -22,7 +23,7 @@ use Rattle.qc_managers.proofs.Known.{newest-told, greatest-told}
 use Rattle.qc_managers.proofs.Onwards.{HasGathered, IsAtStage, at_last, at_first, may_commit}
 use Rattle.qc_managers.proofs.Stages.{greatest_stays}
 
-module _ (a now : CarrierView) (m : Name) (rec value : ℕ) (kept : Gathered) (h : HasGathered a now m (kind.Write rec value) kept) where
+module _ (a now : CarrierView) (m : Name) (rec : ℕ) (value : Datum) (kept : Gathered) (h : HasGathered a now m (kind.Write rec value) kept) where
   abbrev first : Voting
   first = first_of a.setting rec
 

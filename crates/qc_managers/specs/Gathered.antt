@@ -1,6 +1,7 @@
 -- What a collection and a phase of puts keep of what a manager was told.
 use Rattle.std.specs.Prelude.{ℕ, List, [], ◌∷◌, Option, None, Some}
 use Rattle.qc_config.specs.Config.{Voting}
+use Rattle.qc_config.specs.Val.{Datum}
 use Rattle.qc_config.specs.declared.tuple.Tuple.{Tuple}
 use Rattle.qc_event.specs.declared.event.Phase.{Phase}
 use Rattle.qc_event.specs.Manager.{Newest, Greatest, greater, greatest_among}
@@ -25,7 +26,7 @@ abbrev pub gathered : Voting → List Told → Gathered
 gathered first told = record { heard = heard told; newest = newest_in first told; greatest = greatest_of (replies_in told) }
 
 -- a version and its value, as a pair
-abbrev pub kept : ℕ × ℕ → Greatest
+abbrev pub kept : ℕ × Datum → Greatest
 kept pair = record { version = pair.0; value = pair.1 }
 
 -- the greatest with one more tuple

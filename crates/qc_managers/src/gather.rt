@@ -113,7 +113,7 @@ impl Gather {
         (self.generation, self.config)
     }
 
-    /// The value of the greatest version, after that version. Both are 0 where nothing replied.
+    /// The value of the greatest version, after that version. The number 0 with version 0 where nothing replied.
     pub fn greatest(&self) -> (u64, Val)
         ensures version { (first : Voting) (told : List Told) → self.now ≡ gathered first told
             → result.0 ≡ (greatest_in told).version }
@@ -122,7 +122,7 @@ impl Gather {
     {
         match self.greatest {
             Some(found) => found,
-            None => (0, 0),
+            None => (0, Val::number(0)),
         }
     }
 

@@ -62,10 +62,11 @@ module _ (table : Table) (limit : ℕ) where
 abbrev pub images_in_pairs : Table → List (List ℕ) → List (List ℕ × List ℕ)
 images_in_pairs table images = map (λ pair. (image_of table images pair, spare_image table images pair)) (range_with_len 0 (table.copies + 1))
 
--- the first fault of a store's images, one for each place
-abbrev pub IsFirstFault : Table → ℕ → BadImage → List (List ℕ) → Type 0
-IsFirstFault table limit bad images = IsFirstInPairs table limit bad (images_in_pairs table images)
+module _ (table : Table) (limit : ℕ) where
+  -- the first fault of a store's images, one for each place
+  abbrev pub IsFirstFault : BadImage → List (List ℕ) → Type 0
+  IsFirstFault bad images = IsFirstInPairs table limit bad (images_in_pairs table images)
 
--- a store's images have no fault
-abbrev pub AreSound : Table → ℕ → List (List ℕ) → Type 0
-AreSound table limit images = AreSoundInPairs table limit (images_in_pairs table images)
+  -- a store's images have no fault
+  abbrev pub AreSound : List (List ℕ) → Type 0
+  AreSound images = AreSoundInPairs table limit (images_in_pairs table images)

@@ -1,5 +1,6 @@
 -- What the mountings of a store's disks found: at place 0 stands one of the ledger's, at place c + 1 one of copy c's.
 use Rattle.std.specs.Prelude.{ℕ, ◌≡◌, ◌+◌, ◌<◌, ◌≤◌, ◌^◌, ◌⊎◌, List, [], length, map, slice_index_or, All, Option, IfSome, IsSome}
+use Rattle.qc_config.specs.Val.{Datum}
 use Rattle.qc_codec.specs.Base.{base_in, copy_base, tuples_of_base}
 use Rattle.qc_codec.specs.Bodies as body
 use Rattle.qc_codec.specs.Copy.{grant_form}
@@ -31,7 +32,7 @@ pub record AreKept (table : Table) (base : List (List Tuple)) (records : ℕ →
       → ∥ KeepsGrants (setting_of table base) (length base) copy (records (copy + 1)) (λ image. image ≡ slice_index_or images (copy + 1) []) past ∥₁
 
 -- Tuples carry the serial machine's values after a history and the commits of tops that may come next.
-pub record CarryNext (table : Table) (values : List ℕ) (past : Past) (tuples : List (List Tuple)) : Type 0 where
+pub record CarryNext (table : Table) (values : List Datum) (past : Past) (tuples : List (List Tuple)) : Type 0 where
   pub more : List Logged
   pub next : AreNext past more
   pub carry : CarryFinal table values (committed_too past more) tuples

@@ -14,6 +14,7 @@ use Rattle.qc_event.specs.Standing.{HasEnded}
 use Rattle.qc_event.specs.Tables.{setting_of}
 use Rattle.qc_journal.specs.Image.{HasRecords}
 use Rattle.qc_ledger.specs.Image as tops
+use Rattle.qc_ledger.specs.Runs.{HasOrMore}
 use Rattle.qc_opening.specs.Mountings.{AreKept, HaveNoGrantsOn, IsCutOff, MountedOn}
 use Rattle.qc_pair.specs.Front.{base_form, number_in}
 use Rattle.qc_pair.specs.Opening.{HaveActive}
@@ -75,9 +76,10 @@ HaveNoGrantsInPairs table told = HaveNoGrantsOn (number_at false) table told × 
 
 -- PAIRS THAT WERE FOLDED
 
--- No fold into a disk was finished: its image has the records that it had, or none, or only how the disk was made.
-abbrev pub IsUnfolded : List (List ℕ) → List ℕ → List ℕ → Type 0
-IsUnfolded had made image = HasRecords had image ⊎ (HasRecords [] image ⊎ HasRecords (made ∷ []) image)
+module _ (had : List (List ℕ)) (made : List ℕ) where
+  -- No fold into a disk was finished: its image has the records that it had, or none, or only how the disk was made.
+  abbrev pub IsUnfolded : List ℕ → Type 0
+  IsUnfolded image = HasRecords had image ⊎ HasOrMore [] made image
 
 -- the base to which bodies that were found are folded, of the next number and of a run's epoch
 abbrev pub next_base : Kind → List (List ℕ) → ℕ → List Tuple → BaseRecord

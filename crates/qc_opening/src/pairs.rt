@@ -1,5 +1,6 @@
 //! What a store's pairs of disks keep stands beside its history, as a law.
 ghost use Rattle.std.specs.Prelude.{ℕ, ◌≡◌, ◌+◌, ◌≤◌, List, [], length, slice_index_or, Option, Some};
+ghost use Rattle.qc_config.specs.Val.{Datum};
 ghost use Rattle.qc_config.specs.declared.tuple.Tuple.{Tuple};
 ghost use Rattle.qc_event.specs.declared.table.Table.{Table};
 ghost use Rattle.qc_event.specs.History.{Past, limit};
@@ -31,7 +32,7 @@ pub fn kept_pairs_stand()
         → AreLeftByFolds m past images
         → ∥ StandInPairsWithin 1 table base epoch past images ∥₁ }
     ensures restarts { (table : Table) (base : List (List Tuple)) (epoch : ℕ) (past : Past)
-        → (images last : List (List ℕ)) (later : List (List (List ℕ))) (values : List ℕ)
+        → (images last : List (List ℕ)) (later : List (List (List ℕ))) (values : List Datum)
         → (records : ℕ → List (List ℕ)) (later_epoch : ℕ) (later_base : List (List Tuple))
         → StandInPairs table base epoch past images
         → Legal (setting_of table base) past → IsSound (setting_of table base) values

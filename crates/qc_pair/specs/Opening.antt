@@ -4,10 +4,10 @@ use Rattle.std.specs.declared.alloc.Global.{Global}
 use Rattle.qc_codec.specs.Base.{active, is_swapped}
 use Rattle.qc_codec.specs.declared.image.ImageFault.{ImageFault}
 use Rattle.qc_codec.specs.declared.image.ImageFault.TheVariants as image
-use Rattle.qc_disk.specs.Disk.{CountsOnce, DiskView, Grows, HasCause, LeavesOnly}
+use Rattle.qc_disk.specs.Disk.{CountsOnce, DiskView, HasCause, LeavesOnly}
 use Rattle.qc_disk.specs.declared.disk.Disk.{Ghosts}
-use Rattle.qc_journal.specs.Device.{LeftOrAlike}
-use Rattle.qc_journal.specs.Image.{HasAt, HasRecords, IsBroken}
+use Rattle.qc_journal.specs.Device.{LeftOrAlike, LosesNoRecord}
+use Rattle.qc_journal.specs.Image.{HasRecords, IsBroken}
 use Rattle.qc_journal.specs.Journal.{Keeps, disk_of}
 use Rattle.qc_journal.specs.declared.fault.Fault.{Fault}
 use Rattle.qc_journal.specs.declared.fault.Fault.TheVariants as fault
@@ -114,7 +114,7 @@ module _ (kind : Kind) (who : ℕ) where
 -- What the mounting of a disk leaves of it at each moment, and what it costs.
 pub record MountsDisk {D : Type 0} (view : D → DiskView) (Failed : Type 0) (old new : D) : Type 0 where
   pub any_moment : LeavesOnly view old new (LeftOrAlike (view old).may_leave (view old).content)
-  pub grows : IsSome (view old).content → (index : ℕ) (body : List ℕ) → Grows view old new (HasAt index body)
+  pub grows : IsSome (view old).content → LosesNoRecord view old new
   pub cause : HasCause (view old).faults (view new).faults Failed
   pub counts_once : CountsOnce (view old).faults (view new).faults Failed
 

@@ -4,6 +4,7 @@ use Rattle.std.proofs.Common.{◌≡◌, ℕ, List, [], ◌∷◌, refl, arith}
 use Rattle.std.specs.Prelude.{All, slice_get, Some}
 use Rattle.std.proofs.lemmas.List.Elements.{All-nil, All-cons}
 use Rattle.qc_config.specs.Config.{Voting, IsLegal}
+use Rattle.qc_config.specs.Val.{Number}
 use Rattle.qc_config.specs.declared.tuple.Op.{Op}
 use Rattle.qc_config.specs.declared.tuple.Op.TheVariants.{Get, PutData, PutConfig}
 use Rattle.qc_config.specs.declared.tuple.Tuple.{Tuple}
@@ -18,7 +19,7 @@ two : Voting
 two = record { votes = 2 ∷ []; read = 1; write = 2 }
 
 tuple : ℕ → ℕ → ℕ → Voting → Tuple
-tuple version value generation config = record { version = version; value = value; generation = generation; config = config }
+tuple version value generation config = record { version = version; value = Number value; generation = generation; config = config }
 
 given : Op → Tuple → Given
 given op t = record { copy = 0; grant = record { access = []; rec = 0; op = op; tuple = t } }
@@ -51,7 +52,7 @@ legal_two = record {
   overlap = omega arith;
 }
 
-carries : Carries one start 7
+carries : Carries one start (Number 7)
 unfolding one start tuple
 carries = record {
   configs = one ∷ [];
@@ -62,7 +63,7 @@ carries = record {
   each_listed = alone (λ (t : Tuple). slice_get (one ∷ []) t.generation ≡ Some t.config) (tuple 0 7 0 one) refl;
   passed_on = λ g earlier. absurd (omega arith);
   version_held = refl;
-  values = alone (HasValue 0 7) (tuple 0 7 0 one) (λ is. refl);
+  values = alone (HasValue 0 (Number 7)) (tuple 0 7 0 one) (λ is. refl);
 }
 
 get : Given
@@ -72,25 +73,25 @@ collected : Collected one (get ∷ [])
 unfolding one get given tuple
 collected = record { reads = alone (λ (g : Given). g.grant.op ≡ Get) get refl; enough = refl }
 
-reads : ReadDone one 7 (get ∷ [])
+reads : ReadDone one (Number 7) (get ∷ [])
 unfolding get given tuple
 reads = record { collected = collected; answered = refl }
 
 put : Given
-put = given (PutData 1 8) (tuple 1 8 0 one)
+put = given (PutData 1 (Number 8)) (tuple 1 8 0 one)
 
-writes : WriteDone one 8 (get ∷ put ∷ [])
+writes : WriteDone one (Number 8) (get ∷ put ∷ [])
 unfolding one get put given tuple
 writes = record {
   gets = get ∷ [];
   puts = put ∷ [];
   parts = refl;
   collected = collected;
-  stored = record { stores = alone (λ (g : Given). g.grant.op ≡ PutData 1 8) put refl; enough = refl };
+  stored = record { stores = alone (λ (g : Given). g.grant.op ≡ PutData 1 (Number 8)) put refl; enough = refl };
 }
 
 copy : Given
-copy = given (PutData 0 7) (tuple 0 7 0 one)
+copy = given (PutData 0 (Number 7)) (tuple 0 7 0 one)
 
 move : Given
 move = given (PutConfig 1 two) (tuple 0 7 1 two)
@@ -104,7 +105,7 @@ moves = record {
   parts = refl;
   legal = legal_two;
   collected = collected;
-  stored = record { stores = alone (λ (g : Given). g.grant.op ≡ PutData 0 7) copy refl; enough = refl };
+  stored = record { stores = alone (λ (g : Given). g.grant.op ≡ PutData 0 (Number 7)) copy refl; enough = refl };
   moved = record { stores = alone (λ (g : Given). g.grant.op ≡ PutConfig 1 two) move refl; enough = refl };
   answered = refl;
 }

@@ -4,9 +4,10 @@ use Rattle.std.proofs.Common.{◌≡◌, ℕ, zero, suc, ◌<◌, inr, true, Lis
 use mathlib.Core.Bool.{true≢false}
 use Rattle.std.specs.Prelude.{All}
 use Rattle.std.proofs.lemmas.List.Elements.{All-cons, All-nil}
+use Rattle.qc_config.specs.Val.{Number}
 use Rattle.qc_codec.specs.Base.{copy_base, is_swapped, ledger_base}
 use Rattle.qc_codec.specs.Bodies as body
-use Rattle.qc_codec.specs.Fields.{config, half, long, tuple, word}
+use Rattle.qc_codec.specs.Fields.{config, datum, half, long, tuple, word}
 use Rattle.qc_codec.specs.Ledger.{made_for}
 use Rattle.qc_codec.specs.declared.record.BaseRecord.{BaseRecord}
 use Rattle.qc_codec.specs.declared.record.LedgerRecord.TheVariants as ledger_record
@@ -22,7 +23,7 @@ use Rattle.qc_refine.proofs.Restoring.GrownImages.{by_swapped}
 use Rattle.qc_refine.proofs.Restoring.RestoredBases.{fresh_beside}
 
 abbrev one_row : Row
-one_row = record { name = 97 ∷ []; start = 0; config = record { votes = 1 ∷ []; read = 1; write = 1 } }
+one_row = record { name = 97 ∷ []; start = Number 0; config = record { votes = 1 ∷ []; read = 1; write = 1 } }
 
 abbrev pub table : Table
 table = record { copies = 1; records = one_row ∷ [] }
@@ -62,7 +63,7 @@ has bodies short = inr (length (records_row bodies), record { gate = 0; rest = [
 -- THEY ARE SHORT
 
 pub made_short : (disk : ℕ) → length (made disk) ≡ 21
-unfolding body.made body.making body.table body.row body.label config half long
+unfolding body.made body.making body.table body.row body.label config datum half long
 made_short disk = refl
 
 epoch_short : length (body.ledger.spell (ledger_record.Epoch 1)) ≡ 5
@@ -74,7 +75,7 @@ unfolding body.base body.folded long word
 ledger_base_short = refl
 
 copy_base_short : length ((copy_base table).spell (folded_to (first_tuple one_row ∷ []))) ≡ 43
-unfolding body.base body.folded tuple config half long word
+unfolding body.base body.folded tuple config datum half long word
 copy_base_short = refl
 
 both_short : (disk : ℕ) (second : List ℕ) → length second < 100 → All IsShort (made disk ∷ second ∷ [])
@@ -85,7 +86,7 @@ both_short disk second few =
 -- THEY FIT
 
 made_fits : (disk : ℕ) → disk < 256 → body.made.fits (made_for disk table)
-unfolding body.made body.making body.table body.row body.label config half long
+unfolding body.made body.making body.table body.row body.label config datum half long
 made_fits disk few = ((few, search rules), tt)
 
 ledger_base_fits : (ledger_base table).fits (folded_to [])
@@ -93,17 +94,17 @@ unfolding body.base body.folded long word
 ledger_base_fits = search rules
 
 copy_base_fits : (copy_base table).fits (folded_to (first_tuple one_row ∷ []))
-unfolding body.base body.folded tuple config half long word
+unfolding body.base body.folded tuple config datum half long word
 copy_base_fits = search rules
 
 -- THE SPARES ARE ACTIVE
 
 ledger_swapped : is_swapped ledger_base ledger_own ledger_spare ≡ true
-unfolding body.made body.making body.table body.row body.label body.ledger body.base body.folded tuple config half long word
+unfolding body.made body.making body.table body.row body.label body.ledger body.base body.folded tuple config datum half long word
 ledger_swapped = refl
 
 copy_swapped : is_swapped copy_base copy_own copy_spare ≡ true
-unfolding body.made body.making body.table body.row body.label body.base body.folded tuple config half long word
+unfolding body.made body.making body.table body.row body.label body.base body.folded tuple config datum half long word
 copy_swapped = refl
 
 -- THEY STAND

@@ -5,6 +5,7 @@ use mathlib.Core.Bool.{true≢false}
 use Rattle.std.specs.Prelude.{All}
 use Rattle.std.proofs.lemmas.Bool.{cases_eq, ne_eqb}
 use Rattle.std.proofs.lemmas.List.Elements.{All-nil}
+use Rattle.qc_config.specs.Val.{Number}
 use Rattle.qc_config.specs.declared.tuple.Op.TheVariants.{PutData}
 use Rattle.qc_event.specs.declared.event.Answer.TheVariants as answer
 use Rattle.qc_event.specs.declared.event.Cause.TheVariants as cause
@@ -86,9 +87,9 @@ abbrev undone : Past
 undone = reverse (
     start (top_name 1 1) (kind.User 0 0)
     ∷ start (number_in 1 1 ∷ 1 ∷ []) (kind.User 0 1)
-    ∷ start (number_in 1 1 ∷ 1 ∷ 1 ∷ []) (kind.Write 0 5)
+    ∷ start (number_in 1 1 ∷ 1 ∷ 1 ∷ []) (kind.Write 0 (Number 5))
     ∷ get (number_in 1 1 ∷ 1 ∷ 1 ∷ 1 ∷ []) (tuple 0 0)
-    ++ put (number_in 1 1 ∷ 1 ∷ 1 ∷ 2 ∷ []) (PutData 1 5) (tuple 1 5)
+    ++ put (number_in 1 1 ∷ 1 ∷ 1 ∷ 2 ∷ []) (PutData 1 (Number 5)) (tuple 1 5)
     ++ commit (number_in 1 1 ∷ 1 ∷ 1 ∷ []) answer.Nothing
     ∷ abort (number_in 1 1 ∷ 1 ∷ []) (cause.Asked (number_in 1 1 ∷ 1 ∷ []))
     ∷ ends (top_name 1 1))

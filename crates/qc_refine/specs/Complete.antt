@@ -1,6 +1,7 @@
 -- What a complete manager was given, by its kind, in the order in which it was.
 use Rattle.std.specs.Prelude.{ℕ, ◌≡◌, ◌+◌, ◌<◌, IsTrue, List, [], ◌∷◌, ◌++◌, length}
 use Rattle.qc_config.specs.Config.{Voting, holds_read, holds_write}
+use Rattle.qc_config.specs.Val.{Datum}
 use Rattle.qc_config.specs.declared.tuple.Op.TheVariants.{Get, PutData, PutConfig}
 use Rattle.qc_event.specs.declared.event.Answer.{Answer}
 use Rattle.qc_event.specs.declared.event.Answer.TheVariants as answer
@@ -28,7 +29,7 @@ pub record HasRead (past : Past) (first : Voting) (m : Name) (given : Answer) : 
 
 -- A writing manager has collected, and then put its value, with the version after the greatest, at a write
 -- quorum of the newest configuration.
-pub record HasWritten (past : Past) (first : Voting) (m : Name) (value : ℕ) (given : Answer) : Type 0 where
+pub record HasWritten (past : Past) (first : Voting) (m : Name) (value : Datum) (given : Answer) : Type 0 where
   pub gets : List Given
   pub puts : List Given
   pub parts : served past m ≡ gets ++ puts

@@ -3,6 +3,7 @@ use Rattle.std.specs.Prelude.{ℕ, ◌≡◌, ◌+◌, ◌<◌, ◌==◌, Bool, 
 use Rattle.std.specs.List.{list_any}
 use Rattle.qc_config.specs.Config.{Voting, IsLegal, holds_read, holds_write}
 use Rattle.qc_config.specs.Tuple.{after}
+use Rattle.qc_config.specs.Val.{Datum}
 use Rattle.qc_config.specs.declared.tuple.Op.{Op}
 use Rattle.qc_config.specs.declared.tuple.Op.TheVariants.{Get, PutData, PutConfig}
 use Rattle.qc_config.specs.declared.tuple.Tuple.{Tuple}
@@ -71,12 +72,12 @@ pub record Stored (config : Voting) (op : Op) (puts : List Given) : Type 0 where
   pub enough : IsTrue (holds_write config (marks_of puts))
 
 -- A complete read answers the value of the greatest version.
-pub record ReadDone (first : Voting) (answer : ℕ) (gs : List Given) : Type 0 where
+pub record ReadDone (first : Voting) (answer : Datum) (gs : List Given) : Type 0 where
   pub collected : Collected first gs
   pub answered : answer ≡ (greatest_of gs).value
 
 -- A complete write has put its value with the next version at a write quorum of the newest configuration.
-pub record WriteDone (first : Voting) (value : ℕ) (gs : List Given) : Type 0 where
+pub record WriteDone (first : Voting) (value : Datum) (gs : List Given) : Type 0 where
   pub gets : List Given
   pub puts : List Given
   pub parts : gs ≡ gets ++ puts
@@ -97,5 +98,5 @@ pub record MoveDone (first config : Voting) (answer : ℕ) (gs : List Given) : T
   pub answered : answer ≡ (newest_of first gets).generation + 1
 
 -- the copies carry a value, with one configuration more than before
-abbrev pub CarriesMore : {first : Voting} {tuples : List Tuple} {value : ℕ} → Voting → List Tuple → Carries first tuples value → Type 0
+abbrev pub CarriesMore : {first : Voting} {tuples : List Tuple} {value : Datum} → Voting → List Tuple → Carries first tuples value → Type 0
 CarriesMore {first} {tuples} {value} config later was = (is : Carries first later value) × (is.configs ≡ was.configs ++ config ∷ [])

@@ -1,6 +1,7 @@
 -- The value of a record at the end of a history, by the versions of its tuples.
 use Rattle.std.specs.Prelude.{ℕ, ◌==◌, Bool, ◌&&◌, not, if◌then◌else◌, List, ◌++◌, drop, Option, None, Some}
 use Rattle.std.specs.List.{list_all}
+use Rattle.qc_config.specs.Val.{Datum}
 use Rattle.qc_config.specs.declared.tuple.Tuple.{Tuple}
 use Rattle.qc_event.specs.declared.event.Event.{Event}
 use Rattle.qc_event.specs.declared.event.Event.TheVariants as event
@@ -25,5 +26,5 @@ abbrev pub last_tuples : List (List Tuple) → Past → ℕ → List Tuple
 last_tuples base past rec = column base rec ++ every (λ e. put_for_good past rec e.event) past
 
 -- the value of the greatest version among them; of equals the earliest counts
-abbrev pub final_value : List (List Tuple) → Past → ℕ → ℕ
+abbrev pub final_value : List (List Tuple) → Past → ℕ → Datum
 final_value base past rec = (greatest_among (last_tuples base past rec)).value

@@ -1,6 +1,7 @@
 -- What the records of a disk's image tell, and what tuples carry that were restored of images.
 use Rattle.std.specs.Prelude.{ℕ, ◌≡◌, ◌+◌, ◌-◌, ◌<◌, List, [], ◌∷◌, ◌++◌, length, map, slice_get, All, Option, Some, option_to_list}
 use Rattle.std.specs.List.{filter_map, range_with_len}
+use Rattle.qc_config.specs.Val.{Datum}
 use Rattle.qc_codec.specs.Base.{copy_base, epoch_of_base, ledger_base, tuples_of_base}
 use Rattle.qc_codec.specs.Bodies as body
 use Rattle.qc_codec.specs.Copy.{grant_form}
@@ -54,6 +55,6 @@ pub record IsCopyImage (table : Table) (begin : List Tuple) (granted : List Gran
 -- WHAT IS CARRIED
 
 -- Tuples carry the serial machine's values after a history, and each value is that of the greatest version of its record.
-pub record CarryFinal (table : Table) (values : List ℕ) (past : Past) (tuples : List (List Tuple)) : Type 0 where
+pub record CarryFinal (table : Table) (values : List Datum) (past : Past) (tuples : List (List Tuple)) : Type 0 where
   pub sound : IsSound (setting_of table tuples) (final_values values past)
   pub greatest : (rec : ℕ) → rec < length table.records → slice_get (final_values values past) rec ≡ Some (restored_value tuples rec)

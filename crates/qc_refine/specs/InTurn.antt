@@ -2,6 +2,7 @@
 use Rattle.std.specs.Prelude.{ℕ, ◌≡◌, ◌<◌, List, [], ◌∷◌, ◌++◌, length, All, map, flat_map, slice_get, slice_set, Some}
 use Rattle.std.specs.List.{range_with_len}
 use Rattle.qc_config.specs.Config.{Voting}
+use Rattle.qc_config.specs.Val.{Datum}
 use Rattle.qc_config.specs.declared.tuple.Tuple.{Tuple}
 use Rattle.qc_event.specs.Base.{Setting, first_of}
 use Rattle.qc_event.specs.History.{Given}
@@ -43,23 +44,23 @@ abbrev pub given_to : List Done → List Given
 given_to dones = flat_map (λ (d : Done). d.given) dones
 
 -- the values after a manager of a kind
-abbrev pub values_by : List ℕ → Kind → List ℕ
+abbrev pub values_by : List Datum → Kind → List Datum
 values_by values (Write rec value) = slice_set values rec value
 values_by values kind = values
 
 -- the values after managers
-abbrev pub values_after : List ℕ → List Done → List ℕ
+abbrev pub values_after : List Datum → List Done → List Datum
 values_after values [] = values
 values_after values (d ∷ dones) = values_after (values_by values d.kind) dones
 
 -- a read's answer is the value of its record
-abbrev pub AnswersValue : List ℕ → Kind → Answer → Type 0
+abbrev pub AnswersValue : List Datum → Kind → Answer → Type 0
 AnswersValue values (Read rec) (Value value) = slice_get values rec ≡ Some value
 AnswersValue values (Read rec) answer = ⊥
 AnswersValue values kind answer = Unit {0}
 
 -- each read's answer is the value of its record when it comes
-abbrev pub AnswerValues : List ℕ → List Done → Type 0
+abbrev pub AnswerValues : List Datum → List Done → Type 0
 AnswerValues values [] = Unit {0}
 AnswerValues values (d ∷ dones) = AnswersValue values d.kind d.answer × AnswerValues (values_by values d.kind) dones
 
@@ -73,7 +74,7 @@ left_setting setting given = record { firsts = setting.firsts; base = left_base 
 
 -- A manager comes after others: what it finds and what it leaves is sound, for the values before it and after
 -- it, and where it reads it answers its record's value.
-pub record KeepsSound (setting : Setting) (values : List ℕ) (earlier : List Done) (d : Done) : Type 0 where
+pub record KeepsSound (setting : Setting) (values : List Datum) (earlier : List Done) (d : Done) : Type 0 where
   pub finds : IsSound (left_setting setting (given_to earlier)) (values_after values earlier)
   pub answers : AnswersValue (values_after values earlier) d.kind d.answer
   pub leaves : IsSound (left_setting setting (given_to (earlier ++ d ∷ []))) (values_after values (earlier ++ d ∷ []))

@@ -1,6 +1,7 @@
 -- What disks tell of the runs that wrote them, and the tuples that they restore.
 use Rattle.std.specs.Prelude.{ℕ, List, [], map, length, slice_index_or}
 use Rattle.std.specs.List.{range_with_len}
+use Rattle.qc_config.specs.Val.{Datum}
 use Rattle.qc_codec.specs.Restored.{restored_row}
 use Rattle.qc_codec.specs.declared.past.Logged.{Logged}
 use Rattle.qc_config.specs.declared.tuple.Tuple.{Tuple}
@@ -27,5 +28,5 @@ abbrev pub restored_setting : List (List Tuple) → Setting → Kept → Setting
 restored_setting first setting kept = record { firsts = setting.firsts; base = restored first (length setting.firsts) kept }
 
 -- the value of a record that tuples restore: that of the greatest version over all copies
-abbrev pub restored_value : List (List Tuple) → ℕ → ℕ
+abbrev pub restored_value : List (List Tuple) → ℕ → Datum
 restored_value tuples rec = (greatest_among (column tuples rec)).value

@@ -1,6 +1,7 @@
 //! That folding a pair of disks changes nothing that they restore, as a law over all legal histories.
 ghost use Rattle.std.specs.Prelude.{ℕ, ◌≡◌, ◌<◌, ◌++◌, List, [], length, All, None, false};
 ghost use Rattle.qc_codec.specs.Restored.{restored_tuple};
+ghost use Rattle.qc_config.specs.Val.{Datum};
 ghost use Rattle.qc_config.specs.declared.tuple.Tuple.{Tuple};
 ghost use Rattle.qc_event.specs.Base.{Setting, start_tuple};
 ghost use Rattle.qc_event.specs.History.{Past, grants};
@@ -48,7 +49,7 @@ pub fn folded_pairs_restore_alike()
         → restored first' (length setting.firsts) now'
         ≡ restored first (length setting.firsts) now }
     ensures sound { (first first' : List (List Tuple)) (epoch : ℕ) (setting : Setting)
-        → (values : List ℕ) (before now now' : Kept) (past : Past) → Legal setting past
+        → (values : List Datum) (before now now' : Kept) (past : Past) → Legal setting past
         → IsSound setting values → (s : StandBeside first epoch setting before now past)
         → AreFoldedPairs setting past first first' now now'
         → IsSound (restored_setting first' setting now')

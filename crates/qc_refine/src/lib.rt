@@ -8,6 +8,7 @@ mod pairs;
 
 ghost use Rattle.std.specs.Prelude.{ℕ, ◌≡◌, ◌∷◌, ◌++◌, All, List, [], length, None};
 ghost use Rattle.qc_config.specs.Config.{Voting};
+ghost use Rattle.qc_config.specs.Val.{Datum};
 ghost use Rattle.qc_config.specs.declared.tuple.Tuple.{Tuple};
 ghost use Rattle.qc_event.specs.Base.{Setting};
 ghost use Rattle.qc_event.specs.Dead.{dead};
@@ -29,18 +30,18 @@ pub use pairs::restored_pairs_are_serial;
 /// value and changes nothing, a write leaves copies that carry what it wrote, and a reconfiguration copies that
 /// carry the value, with its configuration as the newest.
 pub fn managers_keep_copies_sound()
-    ensures read { (first : Voting) (tuples : List Tuple) (value answer : ℕ) (given : List Given)
+    ensures read { (first : Voting) (tuples : List Tuple) (value answer : Datum) (given : List Given)
         → Carries first tuples value
         → Within (length tuples) given → FindsThere tuples given → ReadDone first answer given
         → answer ≡ value }
-    ensures read_leaves { (first : Voting) (tuples : List Tuple) (answer : ℕ) (given : List Given)
+    ensures read_leaves { (first : Voting) (tuples : List Tuple) (answer : Datum) (given : List Given)
         → ReadDone first answer given
         → after_all tuples given ≡ tuples }
-    ensures write { (first : Voting) (tuples : List Tuple) (value new : ℕ) (given : List Given)
+    ensures write { (first : Voting) (tuples : List Tuple) (value new : Datum) (given : List Given)
         → Carries first tuples value
         → Within (length tuples) given → FindsThere tuples given → WriteDone first new given
         → Carries first (after_all tuples given) new }
-    ensures reconfigure { (first config : Voting) (tuples : List Tuple) (value answer : ℕ)
+    ensures reconfigure { (first config : Voting) (tuples : List Tuple) (value : Datum) (answer : ℕ)
         (given : List Given) (was : Carries first tuples value)
         → Within (length tuples) given → FindsThere tuples given
         → MoveDone first config answer given
@@ -51,10 +52,10 @@ pub fn managers_keep_copies_sound()
 /// ones left: each read answers the value that was written last, and the tuples that are left are sound for the
 /// values after all of them.
 pub fn managers_in_turn_serve_values()
-    ensures reads { (setting : Setting) (values : List ℕ) (dones : List Done)
+    ensures reads { (setting : Setting) (values : List Datum) (dones : List Done)
         → IsSound setting values → All (IsDone setting) dones
         → Finds setting.base (given_to dones) → AnswerValues values dones }
-    ensures sound { (setting : Setting) (values : List ℕ) (dones : List Done)
+    ensures sound { (setting : Setting) (values : List Datum) (dones : List Done)
         → IsSound setting values → All (IsDone setting) dones
         → Finds setting.base (given_to dones) → IsSound (left_setting setting (given_to dones))
         (values_after values dones) }
@@ -65,16 +66,16 @@ pub fn managers_in_turn_serve_values()
 /// answers there: each reading manager answers the value that was written last. What the root was given leaves
 /// tuples that are sound for the final values.
 pub fn copies_keep_serial_order()
-    ensures serial { (setting : Setting) (values : List ℕ) (past : Past) (t : Name)
+    ensures serial { (setting : Setting) (values : List Datum) (past : Past) (t : Name)
         → Legal setting past
         → IsSound setting values → IsUserOf past t → dead past t ≡ None
         → IsSerialFor values past t }
-    ensures managers { (setting : Setting) (values : List ℕ) (past : Past) (t : Name)
+    ensures managers { (setting : Setting) (values : List Datum) (past : Past) (t : Name)
         → Legal setting past → IsSound setting values
         → IsUserOf past t → dead past t ≡ None → (earlier later : List Done) (d : Done)
         → dones_order past t ≡ earlier ++ d ∷ later
         → KeepsSound setting values earlier d }
-    ensures left { (setting : Setting) (values : List ℕ) (past : Past) → Legal setting past
+    ensures left { (setting : Setting) (values : List Datum) (past : Past) → Legal setting past
         → IsSound setting values → IsSound (left_setting setting (served_order past []))
         (final_values values past) }
 {}

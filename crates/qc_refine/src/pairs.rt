@@ -1,6 +1,7 @@
 //! What pairs of disks restore after a crash, as a law over all legal histories.
 ghost use Rattle.std.specs.Prelude.{ℕ, ◌≡◌, List, []};
 ghost use Rattle.qc_codec.specs.declared.past.Logged.{Logged};
+ghost use Rattle.qc_config.specs.Val.{Datum};
 ghost use Rattle.qc_config.specs.declared.tuple.Tuple.{Tuple};
 ghost use Rattle.qc_event.specs.declared.table.Table.{Table};
 ghost use Rattle.qc_event.specs.Base.{Setting};
@@ -29,14 +30,14 @@ pub fn restored_pairs_are_serial()
     ensures legal { (setting : Setting) (past : Past) (more : List Logged)
         → Legal setting past → AreNext past more → Legal setting (committed_too past more) }
     ensures records { (first : List (List Tuple)) (epoch : ℕ) (setting : Setting)
-        → (values : List ℕ) (before now : Kept) (past : Past)
+        → (values : List Datum) (before now : Kept) (past : Past)
         → Legal setting past → IsSound setting values
         → (s : StandBeside first epoch setting before now past)
         → IsSound (restored_setting first setting now)
         (final_values values (committed_too past s.more)) }
     ensures images { (table : Table) (images : List (List ℕ)) (base : List (List Tuple))
         → (epoch : ℕ) (past : Past) (s : StandInPairs table base epoch past images)
-        → (tuples : List (List Tuple)) → RestoreInPairs table images tuples → (values : List ℕ)
+        → (tuples : List (List Tuple)) → RestoreInPairs table images tuples → (values : List Datum)
         → Legal (setting_of table base) past → IsSound (setting_of table base) values
         → CarryFinal table values (committed_too past s.beside.more) tuples }
     ensures some { (table : Table) (images : List (List ℕ)) (base : List (List Tuple))

@@ -5,6 +5,7 @@ use Rattle.std.specs.List.{range_with_len}
 use Rattle.std.proofs.lemmas.List.{length-map, get_or-map}
 use Rattle.std.proofs.lemmas.List.FromFn.{fill_by_all, length-map-range_with_len, get_or-map-range_with_len, map-range_with_len_more}
 use Rattle.std.proofs.lemmas.List.Sums.{fold-append}
+use Rattle.qc_config.specs.Val.{Datum, Number}
 use Rattle.qc_config.specs.declared.tuple.Tuple.{Tuple}
 use Rattle.qc_event.specs.declared.event.Entry.{Entry}
 use Rattle.qc_event.specs.Base.{start_tuple, no_tuple}
@@ -80,11 +81,11 @@ entries_more base past entries i e bests lt item are = λ rec within. are rec wi
         ∙ ap (λ (x : Entry). column base rec ++ every left (x ∷ reverse (take i entries))) item
         ∙ ap (λ es. column base rec ++ every left es) (sym (reverse-take_more entries i e lt))
 
-pub values_are : (base : List (List Tuple)) (entries : List Entry) (n : ℕ) (bests : List (Option Greatest)) (values : List ℕ) → length bests ≡ n → AreBest (tuples_of base (reverse entries) entries) bests → values ≡ map value_of bests → values ≡ values_by_version base (reverse entries) n
+pub values_are : (base : List (List Tuple)) (entries : List Entry) (n : ℕ) (bests : List (Option Greatest)) (values : List Datum) → length bests ≡ n → AreBest (tuples_of base (reverse entries) entries) bests → values ≡ map value_of bests → values ≡ values_by_version base (reverse entries) n
 values_are base entries n bests values as_many are is =
     is
-    ∙ fill_by_all (final_value base (reverse entries)) (map value_of bests) n 0
+    ∙ fill_by_all (final_value base (reverse entries)) (map value_of bests) n (Number 0)
     (length-map bests value_of ∙ as_many)
     (λ rec lt.
     let within : rec < length bests = subst (λ m. rec < m) (sym as_many) lt in
-    get_or-map value_of bests rec None 0 within ∙ ap value_of (are rec within) ∙ value_is (tuples_of base (reverse entries) entries rec))
+    get_or-map value_of bests rec None (Number 0) within ∙ ap value_of (are rec within) ∙ value_is (tuples_of base (reverse entries) entries rec))

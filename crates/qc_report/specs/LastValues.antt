@@ -1,6 +1,7 @@
 -- The last values of records, by the versions of their tuples.
 use Rattle.std.specs.Prelude.{ℕ, ◌≡◌, ◌<◌, Bool, true, nat_lt, List, [], ◌∷◌, ◌++◌, length, map, slice_index_or, option_to_list, Option, None, Some}
 use Rattle.std.specs.List.{range_with_len}
+use Rattle.qc_config.specs.Val.{Datum, Number}
 use Rattle.qc_config.specs.declared.tuple.Tuple.{Tuple}
 use Rattle.qc_event.specs.declared.event.Event.{Event}
 use Rattle.qc_event.specs.History.{Past}
@@ -8,7 +9,7 @@ use Rattle.qc_event.specs.Manager.{Greatest, greater, greatest_among}
 use Rattle.qc_refine.specs.Final.{final_value, put_for_good}
 
 -- the values of so many records by the versions of their tuples
-abbrev pub values_by_version : List (List Tuple) → Past → ℕ → List ℕ
+abbrev pub values_by_version : List (List Tuple) → Past → ℕ → List Datum
 values_by_version base past records = map (final_value base past) (range_with_len 0 records)
 
 -- the version and the value of a tuple
@@ -20,9 +21,9 @@ abbrev pub best_of : List Tuple → Option Greatest
 best_of [] = None
 best_of (first ∷ tuples) = Some (greatest_among (first ∷ tuples))
 
--- the value of the greatest version, and 0 where there is none
-abbrev pub value_of : Option Greatest → ℕ
-value_of None = 0
+-- the value of the greatest version, and the number 0 where there is none
+abbrev pub value_of : Option Greatest → Datum
+value_of None = Number 0
 value_of (Some b) = b.value
 
 -- whether a tuple has a greater version than others' greatest

@@ -6,6 +6,7 @@ use Rattle.std.specs.Fmt.{decimal}
 use Rattle.std.specs.List.{flat_map, list_any, zip}
 use Rattle.std.specs.Option.{option_map, option_map_or}
 use Rattle.qc_names.specs.Name as name
+use Rattle.qc_config.specs.Val.{Datum, Number}
 use Rattle.qc_config.specs.Copies.{has}
 use Rattle.qc_event.specs.declared.event.Answer.{Answer}
 use Rattle.qc_event.specs.declared.event.Answer.TheVariants.{Value, Generation}
@@ -39,14 +40,18 @@ Text = List ℕ
 abbrev pub record_name : Table → ℕ → Text
 record_name table rec = option_map_or (λ (r : Row). r.name) (slice_get table.records rec) []
 
+-- a value, as a report has it
+abbrev pub value_text : Datum → Text
+value_text (Number n) = decimal n
+
 -- a read manager has committed with a value
 abbrev pub read_line : Table → Name → ℕ → Answer → Text
-read_line table n rec (Value v) = codes "read " ++ name.text n ++ codes " " ++ record_name table rec ++ codes " " ++ decimal v ++ codes "\n"
+read_line table n rec (Value v) = codes "read " ++ name.text n ++ codes " " ++ record_name table rec ++ codes " " ++ value_text v ++ codes "\n"
 read_line table n rec _ = []
 
 -- a write manager of a value has committed
-abbrev pub set_line : Table → Name → ℕ → ℕ → Text
-set_line table n rec v = codes "set " ++ name.text n ++ codes " " ++ record_name table rec ++ codes " " ++ decimal v ++ codes "\n"
+abbrev pub set_line : Table → Name → ℕ → Datum → Text
+set_line table n rec v = codes "set " ++ name.text n ++ codes " " ++ record_name table rec ++ codes " " ++ value_text v ++ codes "\n"
 
 -- a reconfigure manager has committed with a generation
 abbrev pub reconf_line : Table → Name → ℕ → Answer → Text
@@ -181,8 +186,8 @@ doubt_line trail (Ready top) = if is_live (dead.outcome (reverse trail) top) the
 doubt_line trail _ = []
 
 -- a record, and its value at the end
-abbrev pub final_line : Row → ℕ → Text
-final_line row v = codes "final " ++ row.name ++ codes " " ++ decimal v ++ codes "\n"
+abbrev pub final_line : Row → Datum → Text
+final_line row v = codes "final " ++ row.name ++ codes " " ++ value_text v ++ codes "\n"
 
 -- the name of a top has one number
 abbrev pub is_top : Name → Bool
@@ -228,13 +233,13 @@ abbrev pub doubt_lines : List Entry → List Entry → Text
 doubt_lines trail entries = flat_map (λ (e : Entry). doubt_line trail e.event) entries
 
 -- the lines of records with their values
-abbrev pub final_lines : List (Row × ℕ) → Text
-final_lines records = flat_map (λ (p : Row × ℕ). final_line p.0 p.1) records
+abbrev pub final_lines : List (Row × Datum) → Text
+final_lines records = flat_map (λ (p : Row × Datum). final_line p.0 p.1) records
 
 -- the values of records, and how many tops there were
-abbrev pub summary : Table → List ℕ → List Entry → Text
+abbrev pub summary : Table → List Datum → List Entry → Text
 summary table finals trail = final_lines (zip table.records finals) ++ tally trail
 
 -- what is printed of a run of these records, which left these values and this history, the oldest entry first
-abbrev pub report : Table → List ℕ → List Entry → Text
+abbrev pub report : Table → List Datum → List Entry → Text
 report table finals trail = event_lines table trail trail ++ doubt_lines trail trail ++ summary table finals trail

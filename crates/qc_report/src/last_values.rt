@@ -133,13 +133,13 @@ fn start_bests(alloc: Global, base: &Base, records: usize) -> Result<Vec<Option<
     Ok(bests)
 }
 
-/// The value of the best; 0 where there is none.
+/// The value of the best; the number 0 where there is none.
 fn value_of(best: Option<Best>) -> Val
     ensures { result ≡ last.value_of best }
 {
     match best {
         Some(best) => best.value(),
-        None => 0,
+        None => Val::number(0),
     }
 }
 

@@ -15,16 +15,18 @@ mod page;
 mod scan;
 mod sums;
 mod tally;
+mod values;
 
 pub use history::{History, index_of};
 pub use last_values::finals;
 use lines::push_final;
 pub use page::Page;
-use qc_event::Table;
+use qc_event::{Table, Val};
 use std::alloc::{AllocError, Global};
 use sums::Sums;
 use tally::Tally;
 pub use tally::has_doubt;
+pub use values::push_value;
 
 /// The report of a run: a line for each end in its history, a line for each top in doubt, the value of
 /// each record, and how many tops there were. It goes over the entries once. Its time grows with the history's
@@ -32,7 +34,7 @@ pub use tally::has_doubt;
 pub fn report(
     alloc: Global,
     table: &Table,
-    finals: &[u64],
+    finals: &[Val],
     history: &History<'_>,
 ) -> Result<Vec<u8>, AllocError>
     ensures { IfOk result (λ text. text.items ≡ spec.report table.now finals.now history.now) }
@@ -52,7 +54,7 @@ pub fn report(
 pub fn summary(
     alloc: Global,
     table: &Table,
-    finals: &[u64],
+    finals: &[Val],
     history: &History<'_>,
 ) -> Result<Vec<u8>, AllocError>
     ensures { IfOk result (λ text. text.items ≡ spec.summary table.now finals.now history.now) }
@@ -65,7 +67,7 @@ pub fn summary(
 fn push_summary(
     page: &mut Page,
     table: &Table,
-    finals: &[u64],
+    finals: &[Val],
     tally: Tally,
 ) -> Result<(), AllocError>
     ensures { OnOk result (page.new
@@ -75,12 +77,12 @@ fn push_summary(
     tally.push(page)
 }
 
-fn push_finals(page: &mut Page, table: &Table, finals: &[u64]) -> Result<(), AllocError>
+fn push_finals(page: &mut Page, table: &Table, finals: &[Val]) -> Result<(), AllocError>
     ensures { OnOk result
         (page.new ≡ page.old ++ spec.final_lines (zip table.now.records finals.now)) }
 {
     for (row, value) in table.records.as_slice().iter().zip(finals) {
-        push_final(page, row, *value)?;
+        push_final(page, row, value)?;
     }
     Ok(())
 }

@@ -5,7 +5,8 @@ ghost use Rattle.qc_report.specs.Report as spec;
 use crate::history::History;
 use crate::managers::{push_failed, push_read, push_reconf, push_set};
 use crate::page::Page;
-use qc_event::{Answer, Cause, Event, How, Kind, Name, Row, Table};
+use crate::values::push_value;
+use qc_event::{Answer, Cause, Event, How, Kind, Name, Row, Table, Val};
 use std::alloc::AllocError;
 
 fn push_commit(page: &mut Page, name: &Name) -> Result<(), AllocError>
@@ -50,7 +51,7 @@ fn push_committed(
     match kind {
         Kind::User { .. } => push_commit(page, name),
         Kind::Read { rec } => push_read(page, table, name, *rec, answer),
-        Kind::Write { rec, value } => push_set(page, table, name, *rec, *value),
+        Kind::Write { rec, value } => push_set(page, table, name, *rec, value),
         Kind::Reconf { rec, .. } => push_reconf(page, table, name, *rec, answer),
         Kind::Access => Ok(()),
     }
@@ -105,10 +106,12 @@ pub(crate) fn push_doubt(page: &mut Page, top: &Name) -> Result<(), AllocError>
 }
 
 /// Appends a record with its value at the end.
-pub(crate) fn push_final(page: &mut Page, row: &Row, value: u64) -> Result<(), AllocError>
-    ensures { OnOk result (page.new ≡ page.old ++ spec.final_line row.now value) }
+pub(crate) fn push_final(page: &mut Page, row: &Row, value: &Val) -> Result<(), AllocError>
+    ensures { OnOk result (page.new ≡ page.old ++ spec.final_line row.now value.now) }
 {
     write!(page, "final ")?;
     page.push(row.name.as_bytes())?;
-    write!(page, " {value}\n")
+    write!(page, " ")?;
+    push_value(page, value)?;
+    write!(page, "\n")
 }

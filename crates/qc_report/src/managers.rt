@@ -4,7 +4,8 @@ ghost use Rattle.qc_report.specs.Report as spec;
 
 use crate::lack::push_lack;
 use crate::page::Page;
-use qc_event::{Answer, Cause, Lack, Name, Table};
+use crate::values::push_value;
+use qc_event::{Answer, Cause, Lack, Name, Table, Val};
 use std::alloc::AllocError;
 
 /// Appends the name of a record, and nothing for a record beyond the table.
@@ -32,7 +33,9 @@ pub(crate) fn push_read(
         Answer::Value(value) => {
             write!(page, "read {name} ")?;
             push_record(page, table, rec)?;
-            write!(page, " {value}\n")
+            write!(page, " ")?;
+            push_value(page, value)?;
+            write!(page, "\n")
         }
         Answer::Nothing | Answer::Generation(_) | Answer::Reply(_) => Ok(()),
     }
@@ -44,13 +47,16 @@ pub(crate) fn push_set(
     table: &Table,
     name: &Name,
     rec: u8,
-    value: u64,
+    value: &Val,
 ) -> Result<(), AllocError>
-    ensures { OnOk result (page.new ≡ page.old ++ spec.set_line table.now name.now rec value) }
+    ensures { OnOk result
+        (page.new ≡ page.old ++ spec.set_line table.now name.now rec value.now) }
 {
     write!(page, "set {name} ")?;
     push_record(page, table, rec)?;
-    write!(page, " {value}\n")
+    write!(page, " ")?;
+    push_value(page, value)?;
+    write!(page, "\n")
 }
 
 /// Appends the line of a reconfigure manager that has committed.

@@ -1,12 +1,15 @@
 -- The table of a script that is made of a number is spelled.
-use Rattle.std.proofs.Common.{◌≡◌, ℕ, ◌<◌, ◌^◌, Bool, true, List, [], ◌∷◌, length, map, refl, sym, subst, arith}
+use Rattle.std.proofs.Common.{◌≡◌, ℕ, Bool, true, List, [], ◌∷◌, length, map, refl, sym, subst, arith}
 use Rattle.std.specs.Prelude.{All, ◌&&◌, nat_le}
 use Rattle.std.specs.Char.{is_ascii_alphanumeric}
 use Rattle.std.specs.List.{list_all, range_with_len}
 use Rattle.std.proofs.lemmas.Bool.{and_parts, leb-true}
 use Rattle.std.proofs.lemmas.List.Elements.{All-nil, All-cons}
 use Rattle.std.specs.Fmt.{digits}
+use Rattle.qc_config.specs.Val.{Number}
+use Rattle.qc_codec.proofs.Fits.{number_fits}
 use Rattle.qc_codec.specs.Bodies.{are_distinct, table}
+use Rattle.qc_codec.specs.Fields.{datum}
 use Rattle.qc_event.specs.declared.table.Row.{Row}
 use Rattle.qc_script.specs.MadePlan.{one_each, made_row, made_plan}
 use Rattle.qc_script.specs.Plan.{ScriptPlan}
@@ -33,9 +36,9 @@ each_spelled (rec ∷ recs) all =
     let both = and_parts (is_label (made_row rec).name) (list_all (λ r. is_label (made_row r).name) recs) all in
     All-cons IsSpelledAlone (made_row rec) (map made_row recs) (record { name = label_of (made_row rec).name both.0; config = faultless }) (each_spelled recs both.1)
 
-each_small : (recs : List ℕ) → All (λ (r : Row). r.start < 2 ^ 64) (map made_row recs)
-each_small [] = All-nil (λ (r : Row). r.start < 2 ^ 64)
-each_small (rec ∷ recs) = All-cons (λ (r : Row). r.start < 2 ^ 64) (made_row rec) (map made_row recs) (omega arith) (each_small recs)
+each_small : (recs : List ℕ) → All (λ (r : Row). datum.fits r.start) (map made_row recs)
+each_small [] = All-nil (λ (r : Row). datum.fits r.start)
+each_small (rec ∷ recs) = All-cons (λ (r : Row). datum.fits r.start) (made_row rec) (map made_row recs) (number_fits (Number 0) 0 refl (omega arith)) (each_small recs)
 
 labels : list_all (λ rec. is_label (made_row rec).name) (range_with_len 0 8) ≡ true
 unfolding is_label digits

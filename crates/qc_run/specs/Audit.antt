@@ -9,7 +9,7 @@ use Rattle.qc_audit.specs.declared.verdict.Verdict.TheVariants as verdict
 use Rattle.qc_event.specs.declared.table.Table.{Table}
 use Rattle.qc_io.specs.Io.{IsAtEnd, Rose, Appends, AppendsFront, SinkView, SourceView}
 use Rattle.qc_names.specs.Name as name
-use Rattle.qc_report.specs.Report.{Text, record_name}
+use Rattle.qc_report.specs.Report.{Text, record_name, value_text}
 use Rattle.qc_serial.specs.declared.event.SerialEvent.{SerialEvent}
 use Rattle.qc_serial.specs.declared.event.SerialEvent.TheVariants.{Start, Enter, Read, Write, Leave, Skip}
 use Rattle.qc_trail_codec.specs.declared.record.SavedTrail.{SavedTrail}
@@ -24,8 +24,8 @@ most_saved = 2 ^ 24
 abbrev pub event_line : Table → SerialEvent → Text
 event_line table (Start n) = codes "start " ++ name.text n ++ codes "\n"
 event_line table (Enter n) = codes "enter " ++ name.text n ++ codes "\n"
-event_line table (Read n rec value) = codes "read " ++ name.text n ++ codes " " ++ record_name table rec ++ codes " " ++ decimal value ++ codes "\n"
-event_line table (Write n rec value) = codes "write " ++ name.text n ++ codes " " ++ record_name table rec ++ codes " " ++ decimal value ++ codes "\n"
+event_line table (Read n rec value) = codes "read " ++ name.text n ++ codes " " ++ record_name table rec ++ codes " " ++ value_text value ++ codes "\n"
+event_line table (Write n rec value) = codes "write " ++ name.text n ++ codes " " ++ record_name table rec ++ codes " " ++ value_text value ++ codes "\n"
 event_line table (Leave n) = codes "leave " ++ name.text n ++ codes "\n"
 event_line table (Skip n) = codes "skip " ++ name.text n ++ codes "\n"
 

@@ -1,6 +1,7 @@
 -- What a run answers: words for the clauses of the top call.
 use Rattle.std.specs.Prelude.{ℕ, ◌+◌, ◌^◌, ◌≡◌, ◌≢◌, ◌⊎◌, true, IsTrue, List, [], length, reverse, slice_get, Option, None, Some, IfSome, is_some}
 use Rattle.std.specs.List.{list_all}
+use Rattle.qc_config.specs.Val.{Datum}
 use Rattle.qc_audit.specs.Saved.{saved_text}
 use Rattle.qc_config.specs.declared.tuple.Tuple.{Tuple}
 use Rattle.qc_disk.specs.Disk.{DiskView, Rose as DiskRose}
@@ -101,13 +102,13 @@ pub record AsksFor (words : List Text) (left : Option (List ℕ)) (s : ScriptPla
 -- Where the start is sound for a map of values over the table's first configurations, each user transaction without
 -- an aborted ancestor has its serial order from that map on, at every moment.
 abbrev pub HasSerialOrders : Table → List (List Tuple) → List Entry → Type 0
-HasSerialOrders table start trail = (values : List ℕ) → IsSound (setting_of table start) values → IsSerialThroughout values trail
+HasSerialOrders table start trail = (values : List Datum) → IsSound (setting_of table start) values → IsSerialThroughout values trail
 
 -- Where the start is sound for a map with a value for each record, the last values by versions are those of the serial
 -- machine from that map on.
 abbrev pub HasSerialValues : Table → List (List Tuple) → List Entry → Type 0
 HasSerialValues table start trail =
-    (values : List ℕ) → IsSound (setting_of table start) values → length values ≡ length table.records
+    (values : List Datum) → IsSound (setting_of table start) values → length values ≡ length table.records
     → values_by_version start (reverse trail) (length table.records) ≡ final_values values (reverse trail)
 
 -- what is written of a history, by its form: a report or a summary with the last values, which go by versions, or all of it,

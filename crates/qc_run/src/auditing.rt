@@ -13,7 +13,7 @@ use crate::refusing::{nothing, refuse, tell};
 use crate::status::Status;
 use qc_audit::{AuditNo, Verdict, audit};
 use qc_event::Table;
-use qc_report::Page;
+use qc_report::{Page, push_value};
 use qc_serial::SerialEvent;
 use std::alloc::{AllocError, Global};
 
@@ -42,12 +42,16 @@ fn push_event(page: &mut Page, table: &Table, event: &SerialEvent) -> Result<(),
         SerialEvent::Read { name, rec, value } => {
             write!(page, "read {name} ")?;
             push_record(page, table, *rec)?;
-            write!(page, " {value}\n")
+            write!(page, " ")?;
+            push_value(page, value)?;
+            write!(page, "\n")
         }
         SerialEvent::Write { name, rec, value } => {
             write!(page, "write {name} ")?;
             push_record(page, table, *rec)?;
-            write!(page, " {value}\n")
+            write!(page, " ")?;
+            push_value(page, value)?;
+            write!(page, "\n")
         }
     }
 }

@@ -13,7 +13,7 @@ ghost use Rattle.qc_run.specs.Run as terms;
 use crate::io::{Sink, write_all};
 use crate::status::{ROOM_LINE, Status};
 use qc_audit::saved;
-use qc_event::{Base, Short, Table};
+use qc_event::{Base, Short, Table, Val};
 use qc_report::{History, finals, has_doubt, index_of, report, summary};
 use qc_trail::Trail;
 use std::alloc::{AllocError, Global};
@@ -32,7 +32,7 @@ fn last_values(
     table: &Table,
     start: &Base,
     history: &History<'_>,
-) -> Result<Vec<u64>, AllocError>
+) -> Result<Vec<Val>, AllocError>
     requires copies { length start.now ≤ 16 }
     requires records { length table.now.records ≤ 64 }
     ensures { IfOk result (λ values. values.items

@@ -1,6 +1,7 @@
 //! That the table of a script is one that the disks can keep.
-ghost use Rattle.std.specs.Prelude.{ℕ, ◌≡◌, ◌<◌, ◌^◌, All, List};
+ghost use Rattle.std.specs.Prelude.{ℕ, ◌≡◌, All, List};
 ghost use Rattle.qc_codec.specs.Bodies as body;
+ghost use Rattle.qc_codec.specs.Fields.{datum};
 ghost use Rattle.qc_script.specs.MadePlan.{made_plan};
 ghost use Rattle.qc_script.specs.Reading.{IsProper, IsScript};
 ghost use Rattle.qc_script.specs.Steps.{plan_of_script};
@@ -10,14 +11,14 @@ use qc_script::Script;
 
 // The start value of a row is a number of 64 bits.
 fn is_long(row: &Row)
-    ensures { row.now.start < 2 ^ 64 }
+    ensures { datum.fits row.now.start }
 {
-    let _start = row.start;
+    let _start = row.start.as_number();
 }
 
 // So is each row's.
 fn are_long(rows: &[Row])
-    ensures { All (λ row. row.start < 2 ^ 64) rows.now }
+    ensures { All (λ row. datum.fits row.start) rows.now }
 {
     for row in rows {
         is_long(row);

@@ -3,6 +3,7 @@ use Rattle.std.proofs.Common.{◌≡◌, ℕ, ◌+◌, ◌≤◌, Bool, true, fa
 use Rattle.std.specs.Prelude.{Option, None, Some, fold, filter, filter_map, slice_get, unwrap_or, if◌then◌else◌}
 use Rattle.std.specs.List.{cons_option}
 use Rattle.std.proofs.lemmas.List.{drop_all}
+use Rattle.qc_config.specs.Val.{Number}
 use Rattle.qc_config.specs.declared.tuple.Tuple.{Tuple}
 use Rattle.qc_event.specs.declared.event.Ask.{Ask}
 use Rattle.qc_event.specs.Clear.{is_get}
@@ -43,6 +44,6 @@ some_greatest : (best : Greatest) (ts : List Tuple) → fold raised (Some best) 
 some_greatest best [] = refl
 some_greatest best (t ∷ ts) = some_greatest (greater best t) ts
 
-pub greatest_is : (ts : List Tuple) → unwrap_or (fold raised None ts) (record { version = 0; value = 0 }) ≡ greatest_among ts
+pub greatest_is : (ts : List Tuple) → unwrap_or (fold raised None ts) (record { version = 0; value = Number 0 }) ≡ greatest_among ts
 greatest_is [] = refl
-greatest_is (t ∷ ts) = ap (λ o. unwrap_or o (record { version = 0; value = 0 })) (some_greatest (record { version = t.version; value = t.value }) ts)
+greatest_is (t ∷ ts) = ap (λ o. unwrap_or o (record { version = 0; value = Number 0 })) (some_greatest (record { version = t.version; value = t.value }) ts)

@@ -6,7 +6,7 @@ ghost use Rattle.qc_event.specs.Manager as words;
 use crate::asks::{ask_at, is_get, replied, reply, waiting};
 use crate::looks::Looks;
 use crate::standing::is_manager;
-use qc_event::{Ask, Config, Kind, Name, Op, Phase, Tuple};
+use qc_event::{Ask, Config, Kind, Name, Op, Phase, Tuple, Val};
 use std::marker::Model;
 
 /// A configuration and its generation.
@@ -55,7 +55,7 @@ impl NewestConfig {
 #[derive(Clone, Copy, Debug)]
 pub struct GreatestValue {
     version: u64,
-    value: u64,
+    value: Val,
 }
 
 impl Model for GreatestValue {
@@ -72,7 +72,7 @@ impl GreatestValue {
     ghost use Rattle.std.specs.Prelude.{◌≡◌};
 
     /// The value.
-    pub fn value(&self) -> u64
+    pub fn value(&self) -> Val
         ensures { result ≡ self.now.value }
     {
         self.value
@@ -121,7 +121,7 @@ pub fn greatest<H: Looks>(h: &H, m: &Name) -> GreatestValue
     }
     best.unwrap_or(GreatestValue {
         version: 0,
-        value: 0,
+        value: Val::number(0),
     })
 }
 

@@ -3,6 +3,7 @@ use Rattle.std.specs.Prelude.{ℕ, zero, suc, ◌+◌, ◌*◌, ◌%◌, ◌==�
 use Rattle.std.specs.Fmt.{decimal}
 use Rattle.std.specs.List.{range_with_len}
 use Rattle.qc_config.specs.Config.{Voting}
+use Rattle.qc_config.specs.Val.{Number}
 use Rattle.qc_event.specs.declared.event.Kind.TheVariants as kind
 use Rattle.qc_event.specs.declared.table.Row.{Row}
 use Rattle.qc_event.specs.declared.table.Table.{Table}
@@ -23,7 +24,7 @@ two_each = record { votes = 2 ∷ 2 ∷ 2 ∷ 2 ∷ 2 ∷ []; read = 6; write = 
 
 -- the record of this number, as r0
 abbrev pub made_row : ℕ → Row
-made_row rec = record { name = codes "r" ++ decimal rec; start = 0; config = one_each }
+made_row rec = record { name = codes "r" ++ decimal rec; start = Number 0; config = one_each }
 
 abbrev pub made_table : Table
 made_table = record { copies = 5; records = map made_row (range_with_len 0 8) }

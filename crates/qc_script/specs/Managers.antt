@@ -1,5 +1,6 @@
 -- What a user transaction has a manager do, and what it answers.
 use Rattle.std.specs.Prelude.{ℕ, ◌≡◌}
+use Rattle.qc_config.specs.Val.{Datum}
 use Rattle.qc_event.specs.declared.event.Answer.{Answer}
 use Rattle.qc_event.specs.declared.event.Answer.TheVariants as answer
 use Rattle.qc_event.specs.declared.event.Kind.{Kind}
@@ -15,6 +16,6 @@ manager_for (managed.Reconf rec config) = kind.Reconf rec config
 
 -- what that manager may answer
 abbrev pub IsAnswerTo : Managed → Answer → Type 0
-IsAnswerTo (managed.Read rec) given = (value : ℕ) × (given ≡ answer.Value value)
+IsAnswerTo (managed.Read rec) given = (value : Datum) × (given ≡ answer.Value value)
 IsAnswerTo (managed.Write rec value) given = given ≡ answer.Nothing
 IsAnswerTo (managed.Reconf rec config) given = (generation : ℕ) × (given ≡ answer.Generation generation)

@@ -1,6 +1,7 @@
 -- What a body does: its steps one after another; and what sessions and a script are.
 use Rattle.std.specs.Prelude.{ℕ, Bool, ◌+◌, ◌-◌, ◌%◌, ◌^◌, ◌<◌, ◌≤◌, ◌==◌, nat_lt, if◌then◌else◌, List, [], ◌∷◌, length}
 use Rattle.std.specs.List.{AllByRecursion, IsDistinct}
+use Rattle.qc_config.specs.Val.{Number, number_of}
 use Rattle.qc_event.specs.declared.event.Answer.{Answer}
 use Rattle.qc_event.specs.declared.event.Answer.TheVariants as answer
 use Rattle.qc_event.specs.Base.{Setting, IsConfigFor}
@@ -26,9 +27,9 @@ pub data Plan : Type 0 where
 abbrev pub manage_then : Kind → Plan → Plan
 manage_then k rest = Plan.manage_by k (λ given. rest)
 
--- the value that a read answered; no read answers anything else
+-- the number that a read answered; no read answers anything else
 abbrev pub value_of : Answer → ℕ
-value_of (answer.Value value) = value
+value_of (answer.Value value) = number_of value
 value_of _ = 0
 
 -- values are numbers modulo 2 ^ 64
@@ -40,7 +41,7 @@ minus value n = (value + (2 ^ 64 - n)) % 2 ^ 64
 
 -- a record is read, and its value is written as it is then changed
 abbrev pub change_then : ℕ → (ℕ → ℕ) → Plan → Plan
-change_then rec changed rest = Plan.manage_by (kind.Read rec) (λ given. manage_then (kind.Write rec (changed (value_of given))) rest)
+change_then rec changed rest = Plan.manage_by (kind.Read rec) (λ given. manage_then (kind.Write rec (Number (changed (value_of given)))) rest)
 
 -- a record is read, and the transaction aborts itself where the value is less than this
 abbrev pub need_then : ℕ → ℕ → Plan → Plan

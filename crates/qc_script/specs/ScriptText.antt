@@ -7,6 +7,7 @@ use Rattle.std.specs.Result.{is_ok}
 use Rattle.std.specs.Str.{bytes_eq}
 use Rattle.serde_json.specs.Data.{Data}
 use Rattle.serde_json.specs.Find.{as_str, as_object, as_bool}
+use Rattle.qc_config.specs.Val.{Number}
 use Rattle.qc_event.specs.declared.event.Kind.TheVariants as kind
 use Rattle.qc_config.specs.Config.{Voting, fault}
 use Rattle.qc_event.specs.declared.table.Row.{Row}
@@ -66,7 +67,7 @@ row_of copies names d = do
   start ← number_at (codes "start") part.Start d
   config ← member_at (codes "config") part.Config d
   config ← config_of copies config
-  Ok (record { name = name; start = start; config = config })
+  Ok (record { name = name; start = Number start; config = config })
 
 -- the rows, and one more for each of the elements
 abbrev pub rows_of : ℕ → List Row → List Data → Read (List Row)
@@ -162,7 +163,7 @@ amount_of table rec value = do
 
 -- ["set", R, n]
 abbrev pub set_of : Table → ℕ → Data → Data → Counted Front
-set_of table next rec value = amount_of table rec value >>= λ a. Ok (manage_then (kind.Write a.0 a.1), next)
+set_of table next rec value = amount_of table rec value >>= λ a. Ok (manage_then (kind.Write a.0 (Number a.1)), next)
 
 -- ["add", R, n]
 abbrev pub add_of : Table → ℕ → Data → Data → Counted Front

@@ -7,7 +7,7 @@ ghost use Rattle.qc_script.specs.Reading.{IsProper};
 ghost use Rattle.qc_script.specs.Steps.{numbered, put, plan_of_session, plan_of_script};
 
 use crate::script::{Body, Script, Session, Step};
-use qc_event::{Config, Label, Row, Rows, Table};
+use qc_event::{Config, Label, Row, Rows, Table, Val};
 use qc_net::Fate;
 use std::alloc::{AllocError, Global};
 
@@ -35,7 +35,7 @@ fn made_row(alloc: Global, rec: u8) -> Result<Row, AllocError>
     let name = format!(in alloc; "r{rec}")?;
     Ok(Row {
         name: Label::new(alloc, name.as_bytes())?,
-        start: 0,
+        start: Val::number(0),
         config: one_each(),
     })
 }

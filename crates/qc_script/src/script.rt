@@ -1,5 +1,5 @@
 //! Scripts.
-use qc_event::{Config, Table};
+use qc_event::{Config, Table, Val};
 use qc_net::Fate;
 
 /// One step of a body.
@@ -9,7 +9,7 @@ pub enum Step {
     /// Reads a record.
     Read { rec: u8 },
     /// Writes a value to a record.
-    Set { rec: u8, value: u64 },
+    Set { rec: u8, value: Val },
     /// Reads a record, and writes its value plus this one, modulo `2^64`.
     Add { rec: u8, value: u64 },
     /// Reads a record, and writes its value minus this one, modulo `2^64`.

@@ -8,6 +8,7 @@ use Rattle.std.proofs.lemmas.Bool.Decides.{nat_tests}
 use Rattle.std.specs.Prelude.{filter, nat_lt}
 use Rattle.std.specs.List.{flat_map}
 use Rattle.qc_names.specs.Name.{is_ancestor}
+use Rattle.qc_config.specs.Val.{Datum}
 use Rattle.qc_config.specs.declared.config.Config.{Config}
 use Rattle.qc_event.specs.declared.event.Answer.{Answer}
 use Rattle.qc_event.specs.declared.event.Answer.TheVariants as answer
@@ -329,10 +330,10 @@ pub serialise_end : (past : Past) (e : Entry) (p : Name) (j : ℕ) (k : Kind) (h
 serialise_end past e p j k how is of_kind is_open =
     serialise_adds past e p j _ (ends past e (p ++ j ∷ []) how is) is_open (end_adds past e p j k how is of_kind)
 
-pub serialise_commit_read : (past : Past) (e : Entry) (p : Name) (j rec value : ℕ) → e.event ≡ event.End (p ++ j ∷ []) (Commit (answer.Value value)) → kind_of past (p ++ j ∷ []) ≡ Some (kind.Read rec) → is_open_or_root past p ≡ true → serialise (e ∷ past) p ≡ serialise past p ++ Read (p ++ j ∷ []) rec value ∷ []
+pub serialise_commit_read : (past : Past) (e : Entry) (p : Name) (j rec : ℕ) (value : Datum) → e.event ≡ event.End (p ++ j ∷ []) (Commit (answer.Value value)) → kind_of past (p ++ j ∷ []) ≡ Some (kind.Read rec) → is_open_or_root past p ≡ true → serialise (e ∷ past) p ≡ serialise past p ++ Read (p ++ j ∷ []) rec value ∷ []
 serialise_commit_read past e p j rec value = serialise_end past e p j (kind.Read rec) (Commit (answer.Value value))
 
-pub serialise_commit_write : (past : Past) (e : Entry) (p : Name) (j rec value : ℕ) (given : Answer) → e.event ≡ event.End (p ++ j ∷ []) (Commit given) → kind_of past (p ++ j ∷ []) ≡ Some (kind.Write rec value) → is_open_or_root past p ≡ true → serialise (e ∷ past) p ≡ serialise past p ++ Write (p ++ j ∷ []) rec value ∷ []
+pub serialise_commit_write : (past : Past) (e : Entry) (p : Name) (j rec : ℕ) (value : Datum) (given : Answer) → e.event ≡ event.End (p ++ j ∷ []) (Commit given) → kind_of past (p ++ j ∷ []) ≡ Some (kind.Write rec value) → is_open_or_root past p ≡ true → serialise (e ∷ past) p ≡ serialise past p ++ Write (p ++ j ∷ []) rec value ∷ []
 serialise_commit_write past e p j rec value given = serialise_end past e p j (kind.Write rec value) (Commit given)
 
 pub serialise_abort_user : (past : Past) (e : Entry) (p : Name) (j session body : ℕ) (cause : Cause) → e.event ≡ event.End (p ++ j ∷ []) (Abort cause) → kind_of past (p ++ j ∷ []) ≡ Some (kind.User session body) → is_open_or_root past p ≡ true → serialise (e ∷ past) p ≡ serialise past p ++ Skip (p ++ j ∷ []) ∷ []

@@ -1,6 +1,7 @@
 -- In every orderly history the serial machine accepts the order of a live transaction, where its reads find
 -- the values that were written last.
 use Rattle.std.specs.Prelude.{ℕ, ◌≡◌, List, None}
+use Rattle.qc_config.specs.Val.{Datum}
 use Rattle.qc_event.specs.History.{Past, Name}
 use Rattle.qc_event.specs.Dead.{dead}
 use Rattle.qc_event.proofs.Orderly.{Orderly}
@@ -12,7 +13,7 @@ use Rattle.qc_serial.specs.Serial.{IsSerialFor, IsUserOf}
 use Rattle.qc_serial.proofs.Shaped.{shaped_order}
 use Rattle.qc_serial.proofs.OwnSerial.{own_serial}
 
-pub serial_for : (values : List ℕ) (past : Past) (t : Name) → Orderly past → IsUserOf past t → dead past t ≡ None → Reads values (serialise past t) → IsSerialFor values past t
+pub serial_for : (values : List Datum) (past : Past) (t : Name) → Orderly past → IsUserOf past t → dead past t ≡ None → Reads values (serialise past t) → IsSerialFor values past t
 serial_for values past t orderly user alive reads = record {
   accepted = accepts (begin values) (serialise past t) (shaped_order past t values orderly user alive) reads;
   own = own_serial past t orderly user alive;

@@ -1,5 +1,6 @@
 -- Events that keep to the machine's stack and read the values that are there are accepted.
 use Rattle.std.proofs.Common.{◌≡◌, ℕ, Bool, ◌&&◌, IsTrue, List, [], ◌∷◌, ◌++◌, refl, ap, ◌∙◌}
+use Rattle.qc_config.specs.Val.{Datum}
 use Rattle.qc_serial.specs.declared.event.SerialEvent.{SerialEvent}
 use Rattle.qc_serial.specs.declared.event.SerialEvent.TheVariants.{Read, Write}
 use Rattle.qc_serial.specs.Machine.{State, next, run, Accepts}
@@ -23,12 +24,12 @@ pub shaped-append : (m : State) (xs ys : List SerialEvent) → Shaped m xs → S
 shaped-append m [] ys front rest = rest
 shaped-append m (x ∷ xs) ys front rest = (front.0, shaped-append (next m x) xs ys front.1 rest)
 
-pub after-append : (values : List ℕ) (xs ys : List SerialEvent) → after values (xs ++ ys) ≡ after (after values xs) ys
+pub after-append : (values : List Datum) (xs ys : List SerialEvent) → after values (xs ++ ys) ≡ after (after values xs) ys
 after-append values [] ys = refl
 after-append values (Write n rec value ∷ xs) ys = after-append _ xs ys
 after-append values (x ∷ xs) ys = after-append values xs ys
 
-pub reads-append : (values : List ℕ) (xs ys : List SerialEvent) → Reads values xs → Reads (after values xs) ys → Reads values (xs ++ ys)
+pub reads-append : (values : List Datum) (xs ys : List SerialEvent) → Reads values xs → Reads (after values xs) ys → Reads values (xs ++ ys)
 reads-append values [] ys front rest = rest
 reads-append values (Read n rec value ∷ xs) ys front rest = (front.0, reads-append values xs ys front.1 rest)
 reads-append values (Write n rec value ∷ xs) ys front rest = (front.0, reads-append _ xs ys front.1 rest)

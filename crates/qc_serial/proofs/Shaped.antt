@@ -2,6 +2,7 @@
 use Rattle.std.proofs.Common.{◌≡◌, ◌<◌, length, ℕ, true, List, [], ◌∷◌, ◌++◌, refl, sym, ap, ◌∙◌, subst, arith, append-nil}
 use Rattle.std.specs.Prelude.{Option, None, Some, is_some, MatchOption}
 use Rattle.std.specs.Option.{option_map}
+use Rattle.qc_config.specs.Val.{Datum}
 use Rattle.qc_event.specs.declared.event.How.{How}
 use Rattle.qc_event.specs.declared.event.Kind.{Kind}
 use Rattle.qc_event.specs.declared.event.Kind.TheVariants as kind
@@ -81,7 +82,7 @@ record Reached (past : Past) (t : Name) (m : State) (es : List SerialEvent) : Ty
   shaped : Shaped m es
   inside : end past t ≡ None → Through past t (run m es)
 
-module _ (past : Past) (values : List ℕ) (orderly : Orderly past) where
+module _ (past : Past) (values : List Datum) (orderly : Orderly past) where
   root_clean : Clean [] (begin values)
   root_clean = record { on_top = refl; unknown = λ j rest. refl }
 
@@ -128,7 +129,7 @@ module _ (past : Past) (values : List ℕ) (orderly : Orderly past) where
         inside = λ going. absurd (some_or_none (end past (p ++ j ∷ [])) (ap is_some gone) going);
       }
 
-pub shaped_order : (past : Past) (t : Name) (values : List ℕ) → Orderly past → IsUserOf past t → dead past t ≡ None → Shaped (begin values) (serialise past t)
+pub shaped_order : (past : Past) (t : Name) (values : List Datum) → Orderly past → IsUserOf past t → dead past t ≡ None → Shaped (begin values) (serialise past t)
 shaped_order past t values orderly user alive =
     (by_last (λ t. IsUserOf past t → dead past t ≡ None → Reached past t (begin values) (serialise past t))
     (λ user alive. subst (Reached past [] (begin values)) (sym (append-nil (walk past []))) (root past values orderly))

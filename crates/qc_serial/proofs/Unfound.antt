@@ -3,6 +3,7 @@ use Rattle.std.proofs.Common.{◌≡◌, ℕ, zero, suc, ◌+◌, ◌<◌, ◌�
 use Rattle.std.specs.Prelude.{Option, None, Some, nat_lt, if◌then◌else◌}
 use Rattle.std.specs.Option.{option_map}
 use Rattle.std.proofs.lemmas.List.{drop_more, drop_all}
+use Rattle.qc_config.specs.Val.{Datum}
 use Rattle.qc_serial.specs.declared.event.SerialEvent.{SerialEvent}
 use Rattle.qc_serial.specs.declared.event.SerialEvent.TheVariants.{Read, Write}
 use Rattle.qc_serial.specs.Machine.{State, has_value, next, first_refused}
@@ -23,17 +24,17 @@ refused_unfound m (e ∷ es) shaped =
 -- ONE EVENT AFTER ANOTHER
 
 -- the first of the events that is not found, where none so far is
-abbrev pub IsMidway : List ℕ → List SerialEvent → ℕ → List ℕ → Type 0
+abbrev pub IsMidway : List Datum → List SerialEvent → ℕ → List Datum → Type 0
 IsMidway start events i values = first_unfound start events ≡ option_map (λ k. i + k) (first_unfound values (drop i events))
 
-pub at_first : (start : List ℕ) (events : List SerialEvent) → IsMidway start events 0 start
+pub at_first : (start : List Datum) (events : List SerialEvent) → IsMidway start events 0 start
 at_first start events = by (first_unfound start events)
   where
     by : (o : Option ℕ) → o ≡ option_map (λ k. 0 + k) o
     by None = refl
     by (Some k) = let e : k ≡ 0 + k = omega arith in ap Some e
 
-module _ (start : List ℕ) (events : List SerialEvent) (i : ℕ) (values : List ℕ) (midway : IsMidway start events i values) where
+module _ (start : List Datum) (events : List SerialEvent) (i : ℕ) (values : List Datum) (midway : IsMidway start events i values) where
   module _ (e : SerialEvent) (less : i < length events) (item : e ≡ get_or events i e) where
     rest : drop i events ≡ e ∷ drop (i + 1) events
     rest = drop_more events i e less ∙ ap (λ x. x ∷ drop (i + 1) events) (sym item)

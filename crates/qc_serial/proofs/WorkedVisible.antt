@@ -1,5 +1,6 @@
 -- A worked legal history of two children that read side by side: what each is served, by computation.
 use Rattle.std.proofs.Common.{◌≡◌, List, [], ◌∷◌, ◌++◌, reverse, refl, rules}
+use Rattle.qc_config.specs.Val.{Number}
 use Rattle.qc_config.specs.declared.tuple.Op.TheVariants.{Get}
 use Rattle.qc_event.specs.declared.event.Answer.TheVariants as answer
 use Rattle.qc_event.specs.declared.event.Entry.{Entry}
@@ -33,9 +34,9 @@ side_by_side =
     ++ start second (kind.User 0 0)
     ∷ start (number_in 1 1 ∷ 2 ∷ 1 ∷ []) (kind.Read 0)
     ∷ get (number_in 1 1 ∷ 2 ∷ 1 ∷ 1 ∷ []) (tuple 0 0)
-    ++ commit (number_in 1 1 ∷ 2 ∷ 1 ∷ []) (answer.Value 0)
+    ++ commit (number_in 1 1 ∷ 2 ∷ 1 ∷ []) (answer.Value (Number 0))
     ∷ commit second answer.Nothing
-    ∷ commit (number_in 1 1 ∷ 1 ∷ 1 ∷ []) (answer.Value 0)
+    ∷ commit (number_in 1 1 ∷ 1 ∷ 1 ∷ []) (answer.Value (Number 0))
     ∷ []
 
 abbrev both_ended : List Entry

@@ -1,5 +1,6 @@
 //! What the rules of a legal history give of its serial orders, as laws over all histories.
 ghost use Rattle.std.specs.Prelude.{ℕ, ◌≡◌, ◌<◌, ◌==◌, ◌&&◌, List, ◌++◌, length, None, true, Contains, filter};
+ghost use Rattle.qc_config.specs.Val.{Datum};
 ghost use Rattle.qc_event.specs.Dead.{dead, is_committed, outcome};
 ghost use Rattle.qc_event.specs.declared.event.Grant.{Grant};
 ghost use Rattle.qc_event.specs.History.{Past, Name, Given, grants};
@@ -17,7 +18,7 @@ ghost use Rattle.qc_serial.specs.Walk.{serialise, walk};
 /// each read in that order finds the value that was written last. How sessions interleave is left open
 /// (Lynch and Merritt's serial scheduler).
 pub fn serial_where_reads_agree()
-    ensures { (setting : Setting) (values : List ℕ) (past : Past) (t : Name) → Legal setting past
+    ensures { (setting : Setting) (values : List Datum) (past : Past) (t : Name) → Legal setting past
         → IsUserOf past t
         → dead past t ≡ None → Reads values (serialise past t) → IsSerialFor values past t }
 {}
@@ -25,7 +26,7 @@ pub fn serial_where_reads_agree()
 /// In a legal history the serial machine refuses the serial order of such a transaction, where it does, first at a read
 /// that does not find its value, or at a write of no record: how names stand is never in the way.
 pub fn refused_for_values_alone()
-    ensures { (setting : Setting) (values : List ℕ) (past : Past) (t : Name) → Legal setting past
+    ensures { (setting : Setting) (values : List Datum) (past : Past) (t : Name) → Legal setting past
         → IsUserOf past t
         → dead past t ≡ None
         → first_refused (begin values) (serialise past t)

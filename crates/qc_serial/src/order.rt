@@ -20,28 +20,32 @@ fn ended(past: &[Entry], c: &Name, how: &How, out: &mut Vec<SerialEvent>) -> Res
         (history.kind_of (reverse past.now) c.now) (words.walk (reverse past.now) c.now)
         c.now how.now) }
 {
-    match (how, kind(past, c)) {
-        (How::Commit(_), Some(Kind::User { .. })) => {
-            out.push(SerialEvent::Enter(*c))?;
-            walk(past, c, out)?;
-            out.push(SerialEvent::Leave(*c))?;
+    match &kind(past, c) {
+        Some(Kind::User { .. }) => match how {
+            How::Commit(_) => {
+                out.push(SerialEvent::Enter(*c))?;
+                walk(past, c, out)?;
+                out.push(SerialEvent::Leave(*c))?;
+            }
+            How::Abort(_) => out.push(SerialEvent::Skip(*c))?,
+        },
+        Some(Kind::Read { rec }) => {
+            if let How::Commit(Answer::Value(value)) = how {
+                out.push(SerialEvent::Read {
+                    name: *c,
+                    rec: *rec,
+                    value: *value,
+                })?;
+            }
         }
-        (How::Abort(_), Some(Kind::User { .. })) => {
-            out.push(SerialEvent::Skip(*c))?;
-        }
-        (How::Commit(Answer::Value(value)), Some(Kind::Read { rec })) => {
-            out.push(SerialEvent::Read {
-                name: *c,
-                rec,
-                value: *value,
-            })?;
-        }
-        (How::Commit(_), Some(Kind::Write { rec, value })) => {
-            out.push(SerialEvent::Write {
-                name: *c,
-                rec,
-                value,
-            })?;
+        Some(Kind::Write { rec, value }) => {
+            if let How::Commit(_) = how {
+                out.push(SerialEvent::Write {
+                    name: *c,
+                    rec: *rec,
+                    value: *value,
+                })?;
+            }
         }
         _ => {}
     }

@@ -10,9 +10,7 @@ use Rattle.qc_event.specs.History.{Past, Name, Begun, start}
 use Rattle.qc_event.specs.Legal.{Legal}
 use Rattle.qc_event.specs.Standing.{IsUser, Started}
 use Rattle.qc_event.specs.Starts.{Stands}
-use Rattle.qc_event.proofs.Lawful.{lawful, started_wider, started_some}
-use Rattle.qc_event.proofs.LegalOrderly.{legal_orderly}
-use Rattle.qc_event.proofs.OneEntry.{some_or_none}
+use Rattle.qc_event.proofs.Lawful.{started_wider}
 use Rattle.qc_event.proofs.Starting.{user_short}
 use Rattle.qc_script.specs.Plan.{KindFits}
 use Rattle.qc_session.specs.Acting.{StandsBelow}
@@ -28,10 +26,6 @@ by_begun past n P Q step began = by_start (start past n) refl began
 
 pub user_depth : (setting : Setting) (past : Past) (n : Name) → Legal setting past → Started past n (λ b. IsUser b.kind) → length n ≤ 16
 user_depth setting past n legal user = by_begun past n (λ b. IsUser b.kind) (length n ≤ 16) (λ b is h. user_short setting past n b legal is h) user
-
-pub user_nonroot : (setting : Setting) (past : Past) (n : Name) → Legal setting past → Started past n (λ b. IsUser b.kind) → 0 < length n
-user_nonroot setting past [] legal user = absurd (some_or_none (start past []) (started_some (λ b. IsUser b.kind) (start past []) user) (lawful past (legal_orderly setting past legal)).no_root_start)
-user_nonroot setting past (x ∷ n) legal user = omega arith
 
 -- a name that is told not to be the root
 pub not_root : (n : Name) (b : Bool) → IsTrue b ↔ (n ≡ []) → b ≡ false → 0 < length n

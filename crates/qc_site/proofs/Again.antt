@@ -28,7 +28,7 @@ use Rattle.qc_desk.specs.declared.view.View.{View}
 use Rattle.qc_desk.specs.Entries.{IsOlder}
 use Rattle.qc_desk.proofs.Consulting.{stands}
 use Rattle.qc_desk.proofs.Granting.{asked_stays}
-use Rattle.qc_site.specs.AtDesk.{IsGranted}
+use Rattle.qc_desk.specs.Answers.{IsGranted}
 
 -- WHAT THE TABLE TELLS
 

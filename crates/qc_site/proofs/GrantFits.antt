@@ -17,12 +17,12 @@ use Rattle.qc_event.proofs.LegalConfigs.{left_config}
 use Rattle.qc_desk.specs.Consulting.{HasAsked}
 use Rattle.qc_desk.proofs.Consulting.{stands}
 use Rattle.qc_codec.proofs.Fits.{IsConfigInRange, config_fits, granted_fits, name_fits, tuple_fits}
-use Rattle.qc_codec.specs.Fields.{format_1}
+use Rattle.qc_codec.specs.Fields.{format_1, datum}
 use Rattle.qc_codec.specs.Bodies.{grant}
 
 pub grant_fits : (setting : Setting) (past : Past) (copies : ℕ) (ask : Ask) (t : Tuple) → IsProper setting → Legal setting past → copies ≡ length setting.base → HasAsked past ask
     → t ≡ after (seen setting.base past ask.copy ask.rec) ask.op → ask.rec < 256 → slice_index ask.access 0 < 2 ^ 64 → ((k : ℕ) → 0 < k → slice_index ask.access k < 2 ^ 32)
-    → t.version < 2 ^ 64 → t.value < 2 ^ 64 → t.generation < 2 ^ 64 → IsConfigInRange t.config → (grant (format_1 copies)).fits (grant_with ask t)
+    → t.version < 2 ^ 64 → datum.fits t.value → t.generation < 2 ^ 64 → IsConfigInRange t.config → (grant (format_1 copies)).fits (grant_with ask t)
 unfolding grant
 grant_fits setting past copies ask t proper legal counted has is small first rest version value generation range =
     let request = stands (asked past ask.access) ask has in

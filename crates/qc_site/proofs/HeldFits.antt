@@ -17,12 +17,12 @@ use Rattle.qc_event.proofs.LegalConfigs.{seen_legal}
 use Rattle.qc_event.proofs.SizedConfigs.{seen_sized}
 use Rattle.qc_desk.specs.Held.{held_row}
 use Rattle.qc_codec.proofs.Fits.{IsConfigInRange, config_fits, tuple_fits}
-use Rattle.qc_codec.specs.Fields.{format_1, tuple}
+use Rattle.qc_codec.specs.Fields.{format_1, datum, tuple}
 
 -- the numbers of a tuple are in range
 pub record IsTupleInRange (t : Tuple) : Type 0 where
   pub version : t.version < 2 ^ 64
-  pub value : t.value < 2 ^ 64
+  pub value : datum.fits t.value
   pub generation : t.generation < 2 ^ 64
   pub config : IsConfigInRange t.config
 

@@ -9,7 +9,6 @@ use Rattle.qc_event.specs.declared.event.Ask.{Ask}
 use Rattle.qc_event.specs.declared.event.Event.{Event}
 use Rattle.qc_event.specs.declared.event.Event.TheVariants as event
 use Rattle.qc_event.specs.declared.event.Why.{Why}
-use Rattle.qc_ledger.specs.Entered.{SeesMore}
 use Rattle.qc_desk.specs.declared.consult.Consulted.{Consulted}
 use Rattle.qc_desk.specs.declared.consult.Consulted.TheVariants as consulted
 use Rattle.qc_event.specs.declared.short.Short.{Short}
@@ -19,7 +18,8 @@ use Rattle.qc_site.proofs.Again.{none_granted}
 use Rattle.qc_event.proofs.Absent.{same_itself}
 use Rattle.qc_desk.specs.Refusing.{against_nothing}
 use Rattle.qc_desk.specs.Rules.{knows, extends}
-use Rattle.qc_site.specs.AtDesk.{hand_after, IsGranted, LeavesKnown, OnlyLooks}
+use Rattle.qc_desk.specs.Answers.{IsGranted}
+use Rattle.qc_site.specs.AtDesk.{hand_after, LeavesKnown, OnlyLooks}
 use Rattle.qc_config.specs.declared.tuple.Tuple.{Tuple}
 use Rattle.qc_event.specs.declared.event.Entry.{Entry}
 use Rattle.qc_event.specs.declared.event.Grant.{Grant}
@@ -31,7 +31,7 @@ use Rattle.qc_moss.specs.Follows.{TableFollows}
 use Rattle.qc_moss.specs.Locks.{Table, granted_to, unheld}
 use Rattle.qc_moss.proofs.Tables.{granted, grows, starts}
 use Rattle.qc_desk.specs.declared.view.View.{View}
-use Rattle.qc_desk.specs.Calling.{Entered, Looked, Shown, Wanted}
+use Rattle.qc_desk.specs.Calling.{Entered, Looked, Shown, Wanted, SeesMore}
 use Rattle.qc_desk.specs.Known.{AreKnown, IsKnown}
 use Rattle.qc_desk.proofs.Consulting.{follows_more}
 use Rattle.qc_desk.proofs.Seers.{older_trans}

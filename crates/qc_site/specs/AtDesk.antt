@@ -6,15 +6,15 @@ use Rattle.qc_event.specs.declared.event.Ask.{Ask}
 use Rattle.qc_event.specs.declared.event.Entry.{Entry}
 use Rattle.qc_event.specs.declared.event.Event.TheVariants as event
 use Rattle.qc_event.specs.declared.event.Grant.{Grant}
-use Rattle.qc_event.specs.declared.event.Refusal.{Refusal}
 use Rattle.qc_event.specs.declared.event.Refusal.TheVariants as refusal
 use Rattle.qc_event.specs.declared.event.Why.{Why}
 use Rattle.qc_event.specs.Base.{Setting}
-use Rattle.qc_event.specs.History.{Past, granted, grants}
+use Rattle.qc_event.specs.History.{Past, grants}
 use Rattle.qc_event.specs.Seats.{copy_seat}
 use Rattle.qc_desk.specs.declared.consult.Consulted.{Consulted}
 use Rattle.qc_desk.specs.declared.consult.Consulted.TheVariants as consulted
 use Rattle.qc_desk.specs.declared.view.View.{View}
+use Rattle.qc_desk.specs.Answers.{refused_entry}
 use Rattle.qc_desk.specs.Entries.{IsOlder, entries_of, entry}
 use Rattle.qc_desk.specs.Known.{IsKnown}
 use Rattle.qc_site.specs.Replica.{Standing}
@@ -30,23 +30,15 @@ module _ (copy : ℕ) where
   hand_entries None = []
   hand_entries (Some grant) = entry (copy_seat copy) (event.Granted copy grant) ∷ []
 
-  -- that the copy refused a request
-  abbrev pub refused_entry : Ask → Refusal → Entry
-  refused_entry ask r = entry (copy_seat copy) (event.Refused ask.access copy r)
-
   -- that it was unable to serve it
   abbrev pub unable_entry : Ask → Why → Entry
   unable_entry ask why = entry (copy_seat copy) (event.Unable ask.access why)
 
   -- what a consultation enters: a refusal
   abbrev pub told_entries : Ask → Consulted → Past
-  told_entries ask (consulted.Fresh (verdict.Blocked holder)) = refused_entry ask (refusal.Blocked holder) ∷ []
-  told_entries ask (consulted.Fresh (verdict.Dead ancestor)) = refused_entry ask (refusal.Dead ancestor) ∷ []
+  told_entries ask (consulted.Fresh (verdict.Blocked holder)) = refused_entry copy ask (refusal.Blocked holder) ∷ []
+  told_entries ask (consulted.Fresh (verdict.Dead ancestor)) = refused_entry copy ask (refusal.Dead ancestor) ∷ []
   told_entries ask _ = []
-
-  -- the history tells that the copy gave this grant
-  abbrev pub IsGranted : Past → Grant → Type 0
-  IsGranted past grant = granted past grant.access ≡ Some (record { copy = copy; grant = grant })
 
   -- A copy has at most seen more, and entered nothing.
   pub record OnlyLooks (old new : Standing) : Type 0 where

@@ -14,7 +14,7 @@ use Rattle.qc_ledger.specs.Shelf.{EndsWithin}
 use Rattle.qc_desk.specs.declared.store.Store.{Ghosts as Desk}
 use Rattle.qc_desk.specs.declared.view.View.{View}
 use Rattle.qc_desk.specs.Entries.{IsOlder}
-use Rattle.qc_site.specs.AtDesk.{IsGranted}
+use Rattle.qc_desk.specs.Answers.{IsGranted}
 use Rattle.qc_site.specs.Back.{grant_body}
 use Rattle.qc_site.specs.Log.{log_journal}
 use Rattle.qc_site.specs.Replica.{Standing}

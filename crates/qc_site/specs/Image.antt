@@ -1,32 +1,31 @@
 -- The first fault of the image of a copy's disk, and what a mounting writes behind what it finds.
-use Rattle.std.specs.Prelude.{ℕ, ◌≡◌, ◌≢◌, List, [], ◌∷◌, Some}
+use Rattle.std.specs.Prelude.{ℕ, ◌≡◌, ◌≢◌, List, []}
 use Rattle.qc_event.specs.declared.table.Table.{Table}
 use Rattle.qc_codec.specs.Bodies as body
 use Rattle.qc_codec.specs.Copy.{AreInOrder, IsOutOfOrder}
-use Rattle.qc_codec.specs.Form.{all_of}
 use Rattle.qc_codec.specs.Ledger.{made_for}
 use Rattle.qc_codec.specs.declared.image.ImageFault.{ImageFault}
 use Rattle.qc_codec.specs.declared.image.ImageFault.TheVariants.{Broken, Grammar, Full, Table as OtherTable, Epoch}
 use Rattle.qc_codec.specs.declared.past.Past.{Past}
-use Rattle.qc_ledger.specs.Image.{made_where_none, IsFull}
+use Rattle.qc_ledger.specs.Image.{made_where_none, BeginWith, HaveRoom, IsFull}
 
--- the body that says that a disk of a copy's was made for a table
-abbrev pub made_body : ℕ → Table → List ℕ
-made_body disk table = body.made.spell (made_for disk table)
+module _ (disk : ℕ) (table : Table) where
+  -- the body that says that a disk of a copy's was made for a table
+  abbrev pub made_body : List ℕ
+  made_body = body.made.spell (made_for disk table)
 
--- what a mounting writes behind these bodies: how the disk was made, where there are none
-abbrev pub to_write : ℕ → Table → List (List ℕ) → List (List ℕ)
-to_write disk table bodies = made_where_none (made_body disk table) bodies
+  -- what a mounting writes behind these bodies: how the disk was made, where there are none
+  abbrev pub to_write : List (List ℕ) → List (List ℕ)
+  to_write = made_where_none made_body
 
--- the first of these bodies, where there is one, says that a disk of a copy's was made for a table
-abbrev pub AreMadeFor : ℕ → Table → List (List ℕ) → Type 0
-AreMadeFor disk table [] = Unit {0}
-AreMadeFor disk table (first ∷ bodies) = all_of body.made first ≡ Some (made_for disk table)
+  -- the first of these bodies, where there is one, says that a disk of a copy's was made for a table
+  abbrev pub AreMadeFor : List (List ℕ) → Type 0
+  AreMadeFor = BeginWith body.made (made_for disk table)
 
--- Bodies are those of a disk of a copy's for a table, in order behind a ledger's past.
-pub record AreGranted (disk : ℕ) (table : Table) (past : Past) (bodies : List (List ℕ)) : Type 0 where
-  pub made : AreMadeFor disk table bodies
-  pub order : AreInOrder disk table past bodies
+  -- Bodies are those of a disk of a copy's for a table, in order behind a ledger's past.
+  pub record AreGranted (past : Past) (bodies : List (List ℕ)) : Type 0 where
+    pub made : AreMadeFor bodies
+    pub order : AreInOrder disk table past bodies
 
 module _ (disk : ℕ) (table : Table) (past : Past) (limit : ℕ) where
   -- the first fault that bodies have
@@ -40,4 +39,4 @@ module _ (disk : ℕ) (table : Table) (past : Past) (limit : ℕ) where
   -- Bodies have no fault, and what a mounting writes fits behind them.
   pub record AreMountableAsCopy (bodies : List (List ℕ)) : Type 0 where
     pub granted : AreGranted disk table past bodies
-    pub room : (place : ℕ) → IsFull limit bodies (to_write disk table bodies) place → ⊥
+    pub room : HaveRoom limit bodies (to_write disk table bodies)

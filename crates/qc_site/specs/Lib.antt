@@ -9,7 +9,6 @@ pub mod Back
 pub mod Places
 pub mod Replica
 pub mod AtDesk
-pub mod Answers
 pub mod Log
 pub mod Sites
 pub mod Serving

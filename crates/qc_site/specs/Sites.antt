@@ -21,7 +21,8 @@ use Rattle.qc_journal.specs.declared.journal.Journal.{Journal}
 use Rattle.qc_ledger.specs.Entered.{AtMost, GrowsBy, IsBehind}
 use Rattle.qc_ledger.specs.Runs.{Leaves}
 use Rattle.qc_desk.specs.Entries.{IsOlder, entry}
-use Rattle.qc_site.specs.AtDesk.{hand_entries, refused_entry, unable_entry}
+use Rattle.qc_desk.specs.Answers.{refused_entry}
+use Rattle.qc_site.specs.AtDesk.{hand_entries, unable_entry}
 use Rattle.qc_site.specs.Back.{grant_body, IsAnswer}
 use Rattle.qc_site.specs.Log.{IsOver}
 use Rattle.qc_site.specs.Replica.{Standing}

@@ -9,7 +9,7 @@ ghost use Rattle.qc_event.specs.Standing.{HasEnded};
 ghost use Rattle.qc_event.specs.Tables.{setting_of};
 ghost use Rattle.qc_desk.specs.Entries.{IsOlder};
 ghost use Rattle.qc_journal.specs.Journal.{disk_of, IsUp, Keeps};
-ghost use Rattle.qc_ledger.specs.Entered.{SeesMore};
+ghost use Rattle.qc_desk.specs.Calling.{SeesMore};
 ghost use Rattle.qc_ledger.specs.Runs.{Costs, CostsOnce};
 ghost use Rattle.qc_pair.specs.Fold.{active_number, copies_in, folded_base, folded_bodies, made_in, other_in, IsFullFor, IsSameFold};
 ghost use Rattle.qc_pair.specs.Folding.{IsFolding};

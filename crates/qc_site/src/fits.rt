@@ -51,7 +51,8 @@ pub(crate) fn known_to_fit<N: Store>(pass: &Pass<N>, copies: u8, ask: &Ask, tupl
     name_in_range(&ask.access);
     config_in_range(&tuple.config);
     let _rec = ask.rec;
-    let (_version, _value, _generation) = (tuple.version, tuple.value, tuple.generation);
+    let (_version, _generation) = (tuple.version, tuple.generation);
+    let _number = tuple.value.as_number();
 }
 
 /// What a copy holds of each record, by what a pass has seen, fits the form in which a base has it. This reads each tuple,
@@ -64,6 +65,7 @@ pub(crate) fn held_to_fit<N: Store>(pass: &Pass<N>, copy: u8, held: &[Tuple])
 {
     for tuple in held {
         config_in_range(&tuple.config);
-        let (_version, _value, _generation) = (tuple.version, tuple.value, tuple.generation);
+        let (_version, _generation) = (tuple.version, tuple.generation);
+        let _number = tuple.value.as_number();
     }
 }

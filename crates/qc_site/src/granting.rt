@@ -9,7 +9,7 @@ ghost use Rattle.qc_event.specs.Seats.{copy_seat};
 ghost use Rattle.qc_event.specs.Seen.{seen};
 ghost use Rattle.qc_event.specs.Tables.{setting_of};
 ghost use Rattle.qc_journal.specs.Journal.{IsDown, IsUp};
-ghost use Rattle.qc_ledger.specs.Entered.{SeesMore};
+ghost use Rattle.qc_desk.specs.Calling.{SeesMore};
 ghost use Rattle.qc_ledger.specs.Runs.{Costs, CostsOnce};
 ghost use Rattle.qc_desk.specs.Consulting.{HasAsked};
 ghost use Rattle.qc_site.specs.AtDesk.{LeavesKnown};

@@ -15,13 +15,13 @@ ghost use Rattle.qc_event.specs.Seats.{copy_seat};
 ghost use Rattle.qc_event.specs.Tables.{setting_of};
 ghost use Rattle.qc_event.specs.Wants.{IsWant};
 ghost use Rattle.qc_desk.specs.Entries.{IsOlder};
-ghost use Rattle.qc_desk.specs.Calling.{Looked};
+ghost use Rattle.qc_desk.specs.Calling.{Looked, SeesMore};
 ghost use Rattle.qc_desk.specs.Consulting.{HasAsked, IsTold, granted_before};
 ghost use Rattle.qc_desk.specs.declared.consult.Consulted.TheVariants.{Again, Fresh};
 ghost use Rattle.qc_desk.specs.Held.{held_row};
 ghost use Rattle.qc_desk.specs.Known.{AreKnown};
-ghost use Rattle.qc_ledger.specs.Entered.{SeesMore};
-ghost use Rattle.qc_site.specs.AtDesk.{hand_after, hand_entries, told_entries, unable_entry, IsGranted, LeavesKnown, OnlyLooks};
+ghost use Rattle.qc_desk.specs.Answers.{IsGranted};
+ghost use Rattle.qc_site.specs.AtDesk.{hand_after, hand_entries, told_entries, unable_entry, LeavesKnown, OnlyLooks};
 ghost use Rattle.qc_site.specs.Replica.{IsTableOf};
 
 use crate::fits::{held_to_fit, known_to_fit};

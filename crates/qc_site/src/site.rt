@@ -6,7 +6,7 @@ ghost use Rattle.qc_event.specs.History.{grants, limit};
 ghost use Rattle.qc_event.specs.Seats.{copy_seat};
 ghost use Rattle.qc_event.specs.Tables.{setting_of};
 ghost use Rattle.qc_journal.specs.Journal.{disk_of, limit_of, IsDown, IsUp};
-ghost use Rattle.qc_ledger.specs.Entered.{SeesMore};
+ghost use Rattle.qc_desk.specs.Calling.{SeesMore};
 ghost use Rattle.qc_ledger.specs.Runs.{Costs, CostsOnce, Falls, Leaves};
 ghost use Rattle.qc_desk.specs.Known.{IsKnown};
 ghost use Rattle.qc_site.specs.AtDesk.{LeavesKnown, OnlyLooks};

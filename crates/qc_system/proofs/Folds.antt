@@ -1,7 +1,7 @@
 -- What a run's end leaves to be folded: who enters something since, and what each copy holds then.
 use Rattle.std.proofs.Common.{◌≡◌, ℕ, suc, ◌+◌, Bool, true, false, List, [], ◌∷◌, ◌++◌, length, map, refl, sym, ap, ap₂, ◌∙◌, subst, arith, ◌⊎◌, inl, inr}
 use Rattle.std.specs.Prelude.{All}
-use Rattle.std.proofs.lemmas.List.{length-append}
+use Rattle.std.proofs.lemmas.List.{length-append, nil_from_length}
 use Rattle.std.proofs.lemmas.List.Elements.{All-cons, All-nil, All-weaker}
 use Rattle.std.specs.List.{range_with_len}
 use Rattle.qc_config.specs.declared.tuple.Tuple.{Tuple}
@@ -24,21 +24,16 @@ use Rattle.qc_system.specs.Parts.{Findings}
 
 -- WHO ENTERS SOMETHING
 
--- a list of no length is empty
-pub none_long : {A : Type 0} (xs : List A) → length xs ≡ 0 → xs ≡ []
-none_long [] none = refl
-none_long (x ∷ xs) none = absurd (omega (arith, none))
-
 -- who has entered nothing between the first and the last has not since the second
 pub none_between : (n : ℕ) (first mid last : Past) (since : IsOlder first mid) (newer : IsOlder mid last) → entries_of n first ≡ entries_of n last → entries_of n newer.0 ≡ []
 none_between n first mid last since newer same =
     let low : entries_of n mid ≡ entries_of n since.0 ++ entries_of n first = ap (entries_of n) since.1 ∙ entries_append n since.0 first in
     let high : entries_of n last ≡ entries_of n newer.0 ++ entries_of n mid = ap (entries_of n) newer.1 ∙ entries_append n newer.0 mid in
-    none_long (entries_of n newer.0) (omega (arith, ap length low, ap length high, ap length same, length-append (entries_of n since.0) (entries_of n first), length-append (entries_of n newer.0) (entries_of n mid)))
+    nil_from_length (entries_of n newer.0) (omega (arith, ap length low, ap length high, ap length same, length-append (entries_of n since.0) (entries_of n first), length-append (entries_of n newer.0) (entries_of n mid)))
 
 -- where none of a seat is among some, none is among the later of them
 none_behind : (n : ℕ) (e : Entry) (xs : Past) → entries_of n (e ∷ xs) ≡ [] → entries_of n xs ≡ []
-none_behind n e xs none = none_long (entries_of n xs) (omega (arith, ap length (entries_append n (e ∷ []) xs), length-append (entries_of n (e ∷ [])) (entries_of n xs), ap length none))
+none_behind n e xs none = nil_from_length (entries_of n xs) (omega (arith, ap length (entries_append n (e ∷ []) xs), length-append (entries_of n (e ∷ [])) (entries_of n xs), ap length none))
 
 some_here : (e : Entry) (xs : Past) → entries_of e.seat (e ∷ xs) ≡ [] → ⊥
 some_here e xs none = absurd (let never = sym (entries_here e xs) ∙ none in cc)

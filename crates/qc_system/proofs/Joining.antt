@@ -1,7 +1,7 @@
 -- What the first pass has once the passes of the ledger and of the copies are joined into it.
 use Rattle.std.proofs.Common.{◌≡◌, ℕ, ◌<◌, ◌≤◌, ◌⊎◌, inl, inr, [], ◌∷◌, ◌++◌, refl, sym, ap, ◌∙◌, arith, subst}
 use Rattle.qc_event.specs.History.{Past}
-use Rattle.qc_ledger.specs.Entered.{SeesMore}
+use Rattle.qc_desk.specs.Calling.{SeesMore}
 use Rattle.qc_desk.specs.declared.view.View.{View}
 use Rattle.qc_desk.specs.Entries.{entries_of}
 use Rattle.qc_desk.specs.Rules.{Has, IsSettled, joined, knows}

@@ -22,7 +22,8 @@ use Rattle.qc_journal.specs.declared.journal.State.TheVariants as state
 use Rattle.qc_ledger.specs.Entered.{KeepsLogged, MayFinish, pending_by, told_body, tops_of, unsure_by}
 use Rattle.qc_ledger.specs.Shelf.{journal_in, top_in}
 use Rattle.qc_ledger.specs.declared.shelf.Shelf.{Shelf}
-use Rattle.qc_ledger.proofs.Passes.{may_be_next, may_first, ready_stays}
+use Rattle.qc_desk.proofs.Listed.{ready_stays}
+use Rattle.qc_ledger.proofs.Passes.{may_be_next, may_first}
 use Rattle.qc_desk.specs.Entries.{IsOlder, IsSince, entries_of}
 use Rattle.qc_desk.specs.declared.view.View.{View}
 use Rattle.qc_desk.proofs.Finishing.{ended_by_ledger}

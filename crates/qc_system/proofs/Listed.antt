@@ -1,22 +1,18 @@
 -- What is listed of a ready top stays, and with it what the ledger's disk keeps.
 use Rattle.std.proofs.Common.{◌≡◌, inl, inr, ℕ, Bool, true, false, List, [], ◌∷◌, ◌++◌, ◌==◌, refl, sym, ap, ap₂, ◌∙◌, subst, cond}
-use Rattle.std.specs.Prelude.{map, is_some, IfSome, Option, None, Some, option_to_list}
+use Rattle.std.specs.Prelude.{map, IfSome, Option, None, Some, option_to_list}
 use Rattle.std.specs.List.{AllByRecursion}
 use Rattle.std.specs.Option.{option_map}
 use Rattle.qc_codec.specs.Ledger as records
 use Rattle.qc_disk.specs.declared.disk.Disk.{Ghosts}
-use Rattle.qc_event.specs.declared.event.Entry.{Entry}
 use Rattle.qc_event.specs.declared.event.Event.{Event}
 use Rattle.qc_event.specs.declared.event.Event.TheVariants as event
 use Rattle.qc_event.specs.declared.event.How.TheVariants.{Commit, Abort}
 use Rattle.qc_event.specs.Base.{Setting}
 use Rattle.qc_event.specs.History.{Past, Name, is_ready, ready_in}
 use Rattle.qc_event.specs.Legal.{Legal, MayHappen}
-use Rattle.qc_event.specs.Listed.{listed, aborted_below}
+use Rattle.qc_event.specs.Listed.{listed}
 use Rattle.qc_event.specs.Seats.{ledger_seat}
-use Rattle.qc_event.specs.Users.{MayReady}
-use Rattle.qc_event.proofs.Booleans.{not_both}
-use Rattle.qc_event.proofs.OneEntry.{marking}
 use Rattle.qc_event.proofs.StillTold.{some_stays}
 use Rattle.qc_ledger.specs.Entered.{KeepsLogged, MayFinish, pending_by, told_body, tops_of, unsure_by}
 use Rattle.qc_ledger.specs.Shelf.{journal_in, top_body, top_in}
@@ -27,29 +23,11 @@ use Rattle.qc_journal.specs.declared.journal.State.TheVariants as state
 use Rattle.qc_desk.specs.Entries.{IsOlder, entries_of}
 use Rattle.qc_desk.specs.declared.view.View.{View}
 use Rattle.qc_desk.proofs.Finishing.{commit_ready}
+use Rattle.qc_desk.proofs.Listed.{listed_stays}
 use Rattle.qc_desk.proofs.Seers.{older_trans}
 use Rattle.qc_event.proofs.Later.{earlier_legal}
 use Rattle.qc_ledger.specs.Since.{AreTopsBy, IsNext, OrMore}
 use Rattle.qc_ledger.proofs.Since.{tops_later}
-
--- WHAT IS LISTED
-
--- a top becomes ready once
-listed_once : (setting : Setting) (e : Entry) (past : Past) (top : Name) → Legal setting (e ∷ past) → is_ready past top ≡ true → listed (e ∷ past) top ≡ listed past top
-listed_once setting e past top legal ready = by_test (is_some (ready_in top e.event)) refl
-  where
-    by_test : (b : Bool) → is_some (ready_in top e.event) ≡ b → listed (e ∷ past) top ≡ listed past top
-    by_test false is = ap (λ (c : Bool). cond c (aborted_below past top) (listed past top)) is
-    by_test true is =
-        let may : MayReady past e.seat top = subst (MayHappen setting past e.seat) (marking top e.event is) legal.1 in
-        absurd (not_both (is_ready past top) may.not_ready ready)
-
-pub listed_stays : (setting : Setting) (before now : Past) (top : Name) → IsOlder before now → Legal setting now → is_ready before top ≡ true → listed now top ≡ listed before top
-listed_stays setting before now top older legal ready = ap (λ p. listed p top) older.1 ∙ stays older.0 (subst (Legal setting) older.1 legal)
-  where
-    stays : (newer : Past) → Legal setting (newer ++ before) → listed (newer ++ before) top ≡ listed before top
-    stays [] legal = refl
-    stays (e ∷ newer) legal = listed_once setting e (newer ++ before) top legal (some_stays (λ x. ready_in top x.event) newer before ready) ∙ stays newer legal.0
 
 -- THE TOPS THAT A PASS COMMITTED
 

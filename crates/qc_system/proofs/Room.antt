@@ -34,7 +34,8 @@ use Rattle.qc_ledger.specs.declared.fault.LedgerNo.TheVariants as no
 use Rattle.qc_ledger.specs.declared.shelf.Shelf.{Shelf}
 use Rattle.qc_desk.specs.Entries.{IsOlder, entries_of}
 use Rattle.qc_system.specs.Kept.{HadNoRoom, HadNoRoomFor}
-use Rattle.qc_system.proofs.Listed.{agree, listed_stays, same_bodies, tops_ready}
+use Rattle.qc_desk.proofs.Listed.{listed_stays}
+use Rattle.qc_system.proofs.Listed.{agree, same_bodies, tops_ready}
 
 -- TOO LONG A BODY
 

@@ -3,7 +3,7 @@ use Rattle.std.proofs.Common.{◌≡◌, ℕ, zero, suc, ◌+◌, ◌<◌, ◌�
 use Rattle.std.specs.Prelude.{Option, Some, nat_lt, slice_get}
 use Rattle.std.proofs.Math.Nat.{min-eq_right}
 use Rattle.std.proofs.lemmas.Bool.Decides.{nat_tests}
-use Rattle.std.proofs.lemmas.List.{length-append}
+use Rattle.std.proofs.lemmas.List.{length-append, nil_from_length}
 use Rattle.qc_disk.specs.Disk.{DiskView as Disk}
 use Rattle.qc_event.specs.Base.{Setting}
 use Rattle.qc_event.specs.History.{Past, limit}
@@ -22,7 +22,7 @@ use Rattle.qc_system.specs.Folds.{held_in, IsFolded, IsFree, IsLeftBy, OtherFold
 use Rattle.qc_system.specs.Pairs.{own_then_spares}
 use Rattle.qc_system.specs.Parts.{Findings, IsClosing}
 use Rattle.qc_system.proofs.Closing.{copy_later, ledger_later}
-use Rattle.qc_system.proofs.Folds.{IsQuiet, ended_now, ended_then, held_still, none_between, none_long}
+use Rattle.qc_system.proofs.Folds.{IsQuiet, ended_now, ended_then, held_still, none_between}
 
 -- WHO ENTERS NOTHING MORE
 
@@ -45,7 +45,7 @@ quiet_since setting first log closing known older settled was knew own = record 
     none_before : (n : ℕ) → entries_of n log ≡ [] → entries_of n first.seen ≡ entries_of n log
     none_before n none =
         let parts = ap (entries_of n) older.1 ∙ entries_append n older.0 first.seen in
-        none_long (entries_of n first.seen) (omega (arith, ap length parts, length-append (entries_of n older.0) (entries_of n first.seen), ap length none)) ∙ sym none
+        nil_from_length (entries_of n first.seen) (omega (arith, ap length parts, length-append (entries_of n older.0) (entries_of n first.seen), ap length none)) ∙ sym none
 
     two : (a b : Bool) → (a || b) ≡ true → (a ≡ true) ⊎ (b ≡ true)
     two true b is = inl refl

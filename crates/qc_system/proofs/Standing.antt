@@ -1,10 +1,9 @@
 -- What a pass entered itself stands in what it has seen: a copy's answers, and the ledger's refusals.
-use Rattle.std.proofs.Common.{◌≡◌, ℕ, zero, suc, Bool, true, false, [], ◌∷◌, ◌++◌, ◌==◌, refl, sym, ap, ◌∙◌, subst, cond, arith}
+use Rattle.std.proofs.Common.{◌≡◌, ℕ, zero, suc, Bool, true, false, [], ◌∷◌, ◌==◌, refl, sym, ap, ◌∙◌, subst, cond, arith}
 use Rattle.std.specs.Prelude.{◌≤◌, Contains, IsTrue, Option, None, Some, if◌then◌else◌, length, Result, Ok, Err, OnOk, IfErr, IsErrOf, is_some}
 use Rattle.std.specs.List.{list_any}
 use Rattle.std.specs.Option.{option_map_or}
 use Rattle.std.proofs.lemmas.Bool.{or_left, or_right}
-use Rattle.std.proofs.lemmas.List.{length-append}
 use Rattle.qc_config.specs.declared.tuple.Tuple.{Tuple}
 use Rattle.qc_event.specs.Grants.{grant_with}
 use Rattle.qc_event.specs.declared.event.Answered.{Answered}
@@ -20,14 +19,14 @@ use Rattle.qc_event.specs.History.{Past, Name, end, end_in, limit}
 use Rattle.qc_event.specs.Requests.{is_why, unable_in, was_unable}
 use Rattle.qc_event.specs.Seats.{copy_seat, ledger_seat}
 use Rattle.qc_event.proofs.Absent.{same_itself}
-use Rattle.qc_event.proofs.Booleans.{any_right}
 use Rattle.qc_event.proofs.StillTold.{some_stays}
 use Rattle.qc_ledger.specs.Entered.{RefusalEnters, unlogged_entry}
 use Rattle.qc_ledger.specs.declared.fault.LedgerNo.{LedgerNo}
 use Rattle.qc_ledger.specs.declared.fault.LedgerNo.TheVariants as no
 use Rattle.qc_desk.specs.Entries.{IsOlder, entries_of, entry}
-use Rattle.qc_site.specs.Answers.{HasAnswered}
-use Rattle.qc_site.specs.AtDesk.{IsGranted, refused_entry, unable_entry}
+use Rattle.qc_desk.specs.Answers.{IsGranted, refused_entry, HasAnswered}
+use Rattle.qc_desk.proofs.Answered.{full_still, unable_still}
+use Rattle.qc_site.specs.AtDesk.{unable_entry}
 use Rattle.qc_site.specs.Replica.{Standing}
 use Rattle.qc_site.specs.Sites.{AnswerEnters}
 use Rattle.qc_system.specs.Kept.{HasRefused}
@@ -78,10 +77,6 @@ answer_stands copy ask old new answer.Strange own granted enters = told_unable n
 
 -- THE LEDGER'S REFUSALS
 
--- a history that was as long as it may be still is
-pub full_still : (before now : Past) → IsOlder before now → length now ≤ limit → length before ≡ limit → length now ≡ limit
-full_still before now older most is = omega (arith, is, most, ap length older.1, length-append older.0 before)
-
 -- that the ledger was unable stands in what was seen later
 pub refusal_stands : (past mine old : Past) (hand : Option Name) (top : Name) (r : LedgerNo) → mine ≡ entries_of ledger_seat past → (r ≡ no.Short short.Room → length past ≡ limit) → RefusalEnters r hand top old mine → HasRefused past top r
 refusal_stands past mine old hand top no.Disk own room enters = told_unable past ledger_seat top why.Down refl (own_stands ledger_seat past mine enters.mid (unlogged_entry top why.Down) own enters.all)
@@ -91,9 +86,6 @@ refusal_stands past mine old hand top (no.Short short.Memory) own room enters = 
 refusal_stands past mine old hand top (no.Short short.Room) own room enters = room refl
 
 -- what is told of a ledger's answer stands in what was seen later
-unable_still : (newer past : Past) (n : Name) (w : Why) → IsTrue (was_unable past n w) → IsTrue (was_unable (newer ++ past) n w)
-unable_still newer past n w h = any_right (λ (e : Entry). option_map_or (is_why w) (unable_in n e.event) false) newer past h
-
 later_refused : (before now : Past) → IsOlder before now → length now ≤ limit → (top : Name) (r : LedgerNo) → HasRefused before top r → HasRefused now top r
 later_refused before now older most top no.Disk h = subst (λ p. IsTrue (was_unable p top why.Down)) (sym older.1) (unable_still older.0 before top why.Down h)
 later_refused before now older most top (no.Image bad) h = h

@@ -7,7 +7,7 @@ ghost use Rattle.qc_event.specs.Tables.{setting_of};
 ghost use Rattle.qc_desk.specs.Entries.{IsOlder};
 ghost use Rattle.qc_desk.specs.Rules.{IsSettled};
 ghost use Rattle.qc_journal.specs.Journal.{disk_of};
-ghost use Rattle.qc_ledger.specs.Entered.{SeesMore};
+ghost use Rattle.qc_desk.specs.Calling.{SeesMore};
 ghost use Rattle.qc_ledger.specs.Shelf.{journal_in};
 ghost use Rattle.qc_pair.specs.Fold.{other_in, swapped_in};
 ghost use Rattle.qc_site.specs.Log.{log_journal};

@@ -7,10 +7,10 @@ ghost use Rattle.qc_event.specs.declared.short.Short.TheVariants.{Room};
 ghost use Rattle.qc_event.specs.History.{end, is_ready, limit};
 ghost use Rattle.qc_event.specs.Listed.{listed};
 ghost use Rattle.qc_event.specs.Tables.{setting_of};
-ghost use Rattle.qc_ledger.specs.Entered.{SeesMore};
+ghost use Rattle.qc_desk.specs.Calling.{SeesMore};
 ghost use Rattle.qc_desk.specs.Consulting.{HasAsked};
 ghost use Rattle.qc_desk.specs.Known.{IsKnown};
-ghost use Rattle.qc_site.specs.Answers.{HasAnswered};
+ghost use Rattle.qc_desk.specs.Answers.{HasAnswered};
 ghost use Rattle.qc_system.specs.Kept.{HasRefused};
 ghost use Rattle.qc_system.specs.Parts.{IsThere};
 

@@ -2,6 +2,7 @@
 use Rattle.std.specs.Prelude.{ℕ, ◌≡◌, ◌<◌, List, [], ◌++◌, length, slice_index_or, Option, None, Some}
 use Rattle.std.specs.List.{All}
 use Rattle.qc_config.specs.Config.{no_config}
+use Rattle.qc_config.specs.Val.{Number}
 use Rattle.qc_config.specs.declared.tuple.Op.TheVariants.{Get, PutData}
 use Rattle.qc_config.specs.declared.tuple.Tuple.{Tuple}
 use Rattle.qc_event.specs.declared.event.Answer.TheVariants.{Nothing, Value, Reply}
@@ -39,7 +40,7 @@ abbrev pub name_at : Apart → ℕ → Name
 name_at apart at = slice_index_or apart.names at []
 
 abbrev pub no_tuple : Tuple
-no_tuple = record { version = 0; value = 0; generation = 0; config = no_config }
+no_tuple = record { version = 0; value = Number 0; generation = 0; config = no_config }
 
 abbrev pub tuple_at : Apart → ℕ → Tuple
 tuple_at apart at = slice_index_or apart.tuples at no_tuple

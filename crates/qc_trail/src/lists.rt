@@ -307,7 +307,10 @@ impl Lists {
                 rec,
                 tuple: self.place_of_tuple(&tuple)?,
             })),
-            Op::PutData { version, value } if version == tuple.version && value == tuple.value => {
+            Op::PutData { version, value } => {
+                if version != tuple.version || value != tuple.value {
+                    return Ok(None);
+                }
                 Ok(Some(Brief::GrantPut {
                     access: self.place_of(&access, place)?,
                     copy,
@@ -315,7 +318,7 @@ impl Lists {
                     tuple: self.place_of_tuple(&tuple)?,
                 }))
             }
-            _ => Ok(None),
+            Op::PutConfig { .. } => Ok(None),
         }
     }
 

@@ -1,5 +1,6 @@
 -- The forms of events are exact.
 use Rattle.std.proofs.Common.{◌≡◌, ℕ, Option, Some, refl, ap}
+use Rattle.qc_config.specs.Val.{Datum}
 use Rattle.qc_config.specs.Config.{Voting}
 use Rattle.qc_config.specs.declared.tuple.Op.{Op}
 use Rattle.qc_config.specs.declared.tuple.Op.TheVariants.{Get, PutData, PutConfig}
@@ -25,7 +26,7 @@ use Rattle.qc_codec.specs.Form.{Form, Any, byte, variant, under}
 use Rattle.qc_codec.specs.Fields.{Layout, word, long, name}
 use Rattle.qc_codec.specs.Bodies.{code_of}
 use Rattle.qc_codec.proofs.Exact.{IsExact, AreTagged, exact_byte, exact_word, exact_long, exact_pair, exact_as, exact_only, exact_variant, variant_tag, exact_choose, tagged_under, tagged_nothing}
-use Rattle.qc_codec.proofs.Fields.{exact_name, exact_config, exact_tuple}
+use Rattle.qc_codec.proofs.Fields.{exact_name, exact_datum, exact_config, exact_tuple}
 use Rattle.qc_codec.proofs.Bodies.{exact_granted}
 use Rattle.qc_trail_codec.specs.Events.{op, data_of, config_of, put_data, put_config, kind, kind_tag, user_of, read_of, write_of, reconf_of, user, write, reconf, answer, answer_tag, value_of, generation_of, reply_of, cause, cause_tag, asked_of, conflict_of, lack_of, orphan_of, child_of, conflict, how, how_tag, commit_of, abort_of, ask, refusal, refusal_tag, blocked_of, dead_of, event, event_tag, start_of, ask_of, gone_of, granted_of, refused_of, ready_of, end_of, unable_of, mark_of, start, gone, grant_of_copy, refused, end, unable, mark, is_session, entry}
 use Rattle.qc_trail_codec.proofs.Reasons.{exact_why, exact_inability, exact_lack, tagged_just}
@@ -37,7 +38,7 @@ module _ {A B : Type 0} (tag : B → ℕ) (n : ℕ) (to : A → B) (from : B →
 
 -- OPERATIONS
 
-data_back : (o : Op) (p : ℕ × ℕ) → data_of o ≡ Some p → put_data p ≡ o
+data_back : (o : Op) (p : ℕ × Datum) → data_of o ≡ Some p → put_data p ≡ o
 data_back (PutData version value) p is = ap put_data (cc)
 data_back Get p is = absurd cc
 data_back (PutConfig generation c) p is = absurd cc
@@ -52,7 +53,7 @@ unfolding op
 exact_op layout =
     exact_choose code_of _
     (tagged_just code_of Get _
-    (tagged_variant code_of 1 put_data data_of _ _ (exact_pair long _ exact_long (λ version. exact_long)) (λ p. refl) data_back (λ p. refl)
+    (tagged_variant code_of 1 put_data data_of _ _ (exact_pair long _ exact_long (λ version. exact_datum)) (λ p. refl) data_back (λ p. refl)
     (tagged_variant code_of 2 put_config config_of _ _ (exact_pair long _ exact_long (λ generation. exact_config layout)) (λ p. refl) config_back (λ p. refl)
     (tagged_nothing code_of))))
 
@@ -66,7 +67,7 @@ read_back : (k : Kind) (p : ℕ) → read_of k ≡ Some p → Read p ≡ k
 read_back (Read rec) p is = cc
 read_back _ p is = absurd cc
 
-write_back : (k : Kind) (p : ℕ × ℕ) → write_of k ≡ Some p → write p ≡ k
+write_back : (k : Kind) (p : ℕ × Datum) → write_of k ≡ Some p → write p ≡ k
 write_back (Write rec value) p is = ap write (cc)
 write_back _ p is = absurd cc
 
@@ -80,14 +81,14 @@ exact_kind layout =
     exact_choose kind_tag _
     (tagged_variant kind_tag 0 user user_of _ _ (exact_pair byte _ exact_byte (λ n. exact_word)) (λ p. refl) user_back (λ p. refl)
     (tagged_variant kind_tag 1 Read read_of _ _ exact_byte (λ p. refl) read_back (λ p. refl)
-    (tagged_variant kind_tag 2 write write_of _ _ (exact_pair byte _ exact_byte (λ rec. exact_long)) (λ p. refl) write_back (λ p. refl)
+    (tagged_variant kind_tag 2 write write_of _ _ (exact_pair byte _ exact_byte (λ rec. exact_datum)) (λ p. refl) write_back (λ p. refl)
     (tagged_variant kind_tag 3 reconf reconf_of _ _ (exact_pair byte _ exact_byte (λ rec. exact_config layout)) (λ p. refl) reconf_back (λ p. refl)
     (tagged_just kind_tag Access _
     (tagged_nothing kind_tag))))))
 
 -- ENDS
 
-value_back : (a : Answer) (n : ℕ) → value_of a ≡ Some n → Value n ≡ a
+value_back : (a : Answer) (n : Datum) → value_of a ≡ Some n → Value n ≡ a
 value_back (Value value) n is = cc
 value_back _ n is = absurd cc
 
@@ -104,7 +105,7 @@ unfolding answer
 exact_answer layout =
     exact_choose answer_tag _
     (tagged_just answer_tag Nothing _
-    (tagged_variant answer_tag 1 Value value_of _ _ exact_long (λ n. refl) value_back (λ n. refl)
+    (tagged_variant answer_tag 1 Value value_of _ _ exact_datum (λ n. refl) value_back (λ n. refl)
     (tagged_variant answer_tag 2 Generation generation_of _ _ exact_long (λ n. refl) generation_back (λ n. refl)
     (tagged_variant answer_tag 3 Reply reply_of _ _ (exact_tuple layout) (λ t. refl) reply_back (λ t. refl)
     (tagged_nothing answer_tag)))))

@@ -3,6 +3,7 @@ use Rattle.std.proofs.Common.{◌≡◌, ℕ, ◌^◌, ◌<◌, List, [], ◌∷
 use Rattle.std.specs.Prelude.{IsTrue, slice_index_or}
 use Rattle.std.specs.List.{All}
 use Rattle.qc_config.specs.Config.{Voting}
+use Rattle.qc_config.specs.Val.{Datum}
 use Rattle.qc_config.specs.declared.tuple.Op.TheVariants.{PutData, PutConfig}
 use Rattle.qc_config.specs.declared.tuple.Tuple.{Tuple}
 use Rattle.qc_event.specs.declared.event.Answer.TheVariants.{Value, Generation}
@@ -15,7 +16,7 @@ use Rattle.qc_event.specs.declared.event.Phase.{Phase}
 use Rattle.qc_event.specs.declared.event.Phase.TheVariants.{Collect, Values, Configs}
 use Rattle.qc_event.specs.declared.event.Lack.{Lack}
 use Rattle.qc_event.specs.History.{Name}
-use Rattle.qc_codec.specs.Fields.{Layout, format_1, half, word, long, name, config, IsNumbered}
+use Rattle.qc_codec.specs.Fields.{Layout, format_1, half, word, long, name, datum, config, IsNumbered}
 use Rattle.qc_trail_codec.specs.Events.{op, kind, answer, event, entry}
 use Rattle.qc_trail_codec.specs.Reasons.{why, is_inability, inability, reason, copies, number_of, phase, lack}
 use Rattle.qc_trail_codec.specs.Trail.{base, trail}
@@ -62,7 +63,7 @@ lack_fits l marks places =
 
 -- OPERATIONS, KINDS, ANSWERS AND REASONS WITH NUMBERS OF MORE THAN ONE BYTE
 
-pub data_fits : (layout : Layout) (version value : ℕ) → version < 2 ^ 64 → value < 2 ^ 64 → (op layout).fits (PutData version value)
+pub data_fits : (layout : Layout) (version : ℕ) (value : Datum) → version < 2 ^ 64 → datum.fits value → (op layout).fits (PutData version value)
 unfolding op long
 data_fits layout version value a b = (a, b)
 
@@ -74,11 +75,11 @@ pub user_fits : (layout : Layout) (session body : ℕ) → session < 256 → bod
 unfolding kind word
 user_fits layout session body a b = (a, b)
 
-pub write_fits : (layout : Layout) (rec value : ℕ) → rec < 256 → value < 2 ^ 64 → (kind layout).fits (Write rec value)
+pub write_fits : (layout : Layout) (rec : ℕ) (value : Datum) → rec < 256 → datum.fits value → (kind layout).fits (Write rec value)
 unfolding kind long
 write_fits layout rec value a b = (a, b)
 
-pub value_fits : (layout : Layout) (value : ℕ) → value < 2 ^ 64 → (answer layout).fits (Value value)
+pub value_fits : (layout : Layout) (value : Datum) → datum.fits value → (answer layout).fits (Value value)
 unfolding answer long
 value_fits layout value a = a
 

@@ -1,6 +1,7 @@
 -- The bodies of events.
 use Rattle.std.specs.Prelude.{ℕ, Bool, nat_le, Option, None, Some}
 use Rattle.qc_config.specs.Config.{Voting}
+use Rattle.qc_config.specs.Val.{Datum}
 use Rattle.qc_config.specs.declared.tuple.Op.{Op}
 use Rattle.qc_config.specs.declared.tuple.Op.TheVariants.{Get, PutData, PutConfig}
 use Rattle.qc_config.specs.declared.tuple.Tuple.{Tuple}
@@ -23,13 +24,13 @@ use Rattle.qc_event.specs.declared.event.Refusal.TheVariants.{Blocked, Dead}
 use Rattle.qc_event.specs.declared.event.Why.{Why}
 use Rattle.qc_event.specs.History.{Name}
 use Rattle.qc_codec.specs.Form.{Form, Any, byte, pair, as_another, only, just, variant, under, nothing, choose}
-use Rattle.qc_codec.specs.Fields.{Layout, word, long, name, config, tuple}
+use Rattle.qc_codec.specs.Fields.{Layout, word, long, name, datum, config, tuple}
 use Rattle.qc_codec.specs.Bodies.{code_of, granted}
 use Rattle.qc_trail_codec.specs.Reasons.{why, inability, lack}
 
 -- OPERATIONS
 
-abbrev pub data_of : Op → Option (ℕ × ℕ)
+abbrev pub data_of : Op → Option (ℕ × Datum)
 data_of (PutData version value) = Some (version, value)
 data_of _ = None
 
@@ -37,7 +38,7 @@ abbrev pub config_of : Op → Option (ℕ × Voting)
 config_of (PutConfig generation c) = Some (generation, c)
 config_of _ = None
 
-abbrev pub put_data : ℕ × ℕ → Op
+abbrev pub put_data : ℕ × Datum → Op
 put_data p = PutData p.0 p.1
 
 abbrev pub put_config : ℕ × Voting → Op
@@ -46,7 +47,7 @@ put_config p = PutConfig p.0 p.1
 unfoldable pub op : Layout → Form Op
 op layout = choose code_of
     (under 0 (just Get)
-    (under 1 (variant put_data data_of (pair long (λ version. long)))
+    (under 1 (variant put_data data_of (pair long (λ version. datum)))
     (under 2 (variant put_config config_of (pair long (λ generation. config layout)))
     nothing)))
 
@@ -67,7 +68,7 @@ abbrev pub read_of : Kind → Option ℕ
 read_of (Read rec) = Some rec
 read_of _ = None
 
-abbrev pub write_of : Kind → Option (ℕ × ℕ)
+abbrev pub write_of : Kind → Option (ℕ × Datum)
 write_of (Write rec value) = Some (rec, value)
 write_of _ = None
 
@@ -78,7 +79,7 @@ reconf_of _ = None
 abbrev pub user : ℕ × ℕ → Kind
 user p = User p.0 p.1
 
-abbrev pub write : ℕ × ℕ → Kind
+abbrev pub write : ℕ × Datum → Kind
 write p = Write p.0 p.1
 
 abbrev pub reconf : ℕ × Voting → Kind
@@ -88,7 +89,7 @@ unfoldable pub kind : Layout → Form Kind
 kind layout = choose kind_tag
     (under 0 (variant user user_of (pair byte (λ n. word)))
     (under 1 (variant Read read_of byte)
-    (under 2 (variant write write_of (pair byte (λ rec. long)))
+    (under 2 (variant write write_of (pair byte (λ rec. datum)))
     (under 3 (variant reconf reconf_of (pair byte (λ rec. config layout)))
     (under 4 (just Access)
     nothing)))))
@@ -101,7 +102,7 @@ answer_tag (Value value) = 1
 answer_tag (Generation generation) = 2
 answer_tag (Reply t) = 3
 
-abbrev pub value_of : Answer → Option ℕ
+abbrev pub value_of : Answer → Option Datum
 value_of (Value value) = Some value
 value_of _ = None
 
@@ -116,7 +117,7 @@ reply_of _ = None
 unfoldable pub answer : Layout → Form Answer
 answer layout = choose answer_tag
     (under 0 (just Nothing)
-    (under 1 (variant Value value_of long)
+    (under 1 (variant Value value_of datum)
     (under 2 (variant Generation generation_of long)
     (under 3 (variant Reply reply_of (tuple layout))
     nothing))))

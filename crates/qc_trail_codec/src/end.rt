@@ -7,7 +7,7 @@ ghost use Rattle.qc_trail_codec.specs.Saving.{CanEndBeSaved, IsAnswerFor, IsNumb
 
 use crate::kind::put_byte;
 use crate::reason::{lack, put_lack};
-use qc_codec::{CodecNo, Cursor, put_long, put_name, put_tuple};
+use qc_codec::{CodecNo, Cursor, put_long, put_name, put_tuple, put_value};
 use qc_event::{Answer, Cause, How};
 use std::alloc::AllocError;
 
@@ -18,7 +18,7 @@ fn answer(cursor: &mut Cursor<'_>, copies: u8) -> Result<Answer, CodecNo>
 {
     match cursor.byte()? {
         0 => Ok(Answer::Nothing),
-        1 => Ok(Answer::Value(cursor.long()?)),
+        1 => Ok(Answer::Value(cursor.value()?)),
         2 => Ok(Answer::Generation(cursor.long()?)),
         3 => Ok(Answer::Reply(cursor.tuple(copies)?)),
         _ => Err(CodecNo::Bad),
@@ -38,7 +38,7 @@ fn put_answer(out: &mut Vec<u8>, copies: u8, answer: &Answer) -> Result<(), Allo
         Answer::Nothing => put_byte(out, 0),
         Answer::Value(value) => {
             put_byte(out, 1)?;
-            put_long(out, *value)
+            put_value(out, value)
         }
         Answer::Generation(generation) => {
             put_byte(out, 2)?;

@@ -15,7 +15,7 @@ use std::io;
 pub(crate) fn print_op(rt: &HostRuntime, op: &Op) -> io::Result<()> {
     match *op {
         Op::Get => print!(rt; "get"),
-        Op::PutData { version, value } => print!(rt; "put {version} {value}"),
+        Op::PutData { version, value } => print!(rt; "put {version} {}", value.as_number()),
         Op::PutConfig { generation, config } => {
             let config = ConfigText(config);
             print!(rt; "configure {generation} {config}")

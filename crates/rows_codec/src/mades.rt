@@ -10,7 +10,7 @@ use std::{io, str};
 
 fn print_row(rt: &HostRuntime, row: &Row) -> io::Result<()> {
     let name = str::from_utf8(row.name.as_bytes()).unwrap_or("no text");
-    let start = row.start;
+    let start = row.start.as_number();
     let config = ConfigText(row.config);
     print!(rt; "; {name} {start} {config}")
 }

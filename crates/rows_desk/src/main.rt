@@ -140,7 +140,7 @@ fn tell_difference(
 fn tell_tuple(rt: HostRuntime, what: &str, tuple: Option<&Tuple>) -> io::Result<()> {
     match tuple {
         Some(tuple) => {
-            let Tuple { version, value, .. } = *tuple;
+            let (version, value) = (tuple.version, tuple.value.as_number());
             println!(rt; "compared: {what}: value {value} version {version}")
         }
         None => println!(rt; "compared: {what}: none"),

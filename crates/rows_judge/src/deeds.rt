@@ -71,7 +71,7 @@ impl Came {
     // What an end tells.
     fn of(how: &How) -> Self {
         match how {
-            How::Commit(Answer::Value(value)) => Came::Committed(Some(*value)),
+            How::Commit(Answer::Value(value)) => Came::Committed(Some(value.as_number())),
             How::Commit(_) => Came::Committed(None),
             How::Abort(cause) => Came::Aborted(*cause),
         }

@@ -5,7 +5,7 @@ use crate::deeds::{Deed, Told};
 use crate::fault::Fault;
 use crate::halt::Halt;
 use crate::row::par;
-use qc_event::Kind;
+use qc_event::{Kind, Val};
 use qc_script::{Body, Step};
 
 fn simple(children: &mut Children<'_>, kind: &Kind) -> Result<Option<Halt>, Fault> {
@@ -29,7 +29,7 @@ fn change(children: &mut Children<'_>, rec: u8, value: u64) -> Result<Option<Hal
         Ok(old) => {
             let kind = Kind::Write {
                 rec,
-                value: old.wrapping_add(value),
+                value: Val::number(old.wrapping_add(value)),
             };
             Ok(children.take_manager(&kind, Halt::Unwritten)?.err())
         }

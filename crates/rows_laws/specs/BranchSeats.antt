@@ -1,5 +1,6 @@
 -- Trails in which children of a top are branches, or only seem to be, by the seats under which they run.
 use Rattle.std.specs.Prelude.{ℕ, false, List, ◌∷◌, ◌++◌}
+use Rattle.qc_config.specs.Val.{Number}
 use Rattle.qc_event.specs.declared.event.Answer.TheVariants as answer
 use Rattle.qc_event.specs.declared.event.Entry.{Entry}
 use Rattle.qc_event.specs.declared.event.Event.TheVariants as event
@@ -135,10 +136,10 @@ parent_reads =
     ∷ begins other_client first_child 1
     ∷ looks other_client first_child
     ∷ by client (event.Start second_child (kind.Read x))
-    ∷ by client (event.End second_child (Commit (answer.Value 0)))
+    ∷ by client (event.End second_child (Commit (answer.Value (Number 0))))
     ∷ reads other_client first_child
     ++ commits
 
 -- the top's read stands under another seat
 abbrev pub reads_elsewhere : List Entry
-reads_elsewhere = user client top ∷ by other_client (event.Start first_child (kind.Read x)) ∷ by other_client (event.End first_child (Commit (answer.Value 0))) ∷ commits
+reads_elsewhere = user client top ∷ by other_client (event.Start first_child (kind.Read x)) ∷ by other_client (event.End first_child (Commit (answer.Value (Number 0)))) ∷ commits

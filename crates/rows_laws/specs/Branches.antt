@@ -1,5 +1,6 @@
 -- Trails in which branches of a top run at once.
 use Rattle.std.specs.Prelude.{ℕ, Bool, true, false, List, [], ◌∷◌, ◌++◌}
+use Rattle.qc_config.specs.Val.{Number}
 use Rattle.qc_event.specs.declared.event.Answer.TheVariants as answer
 use Rattle.qc_event.specs.declared.event.Cause.TheVariants as cause
 use Rattle.qc_event.specs.declared.event.Entry.{Entry}
@@ -47,7 +48,7 @@ looks seat n = by seat (event.Start (access n 1) (kind.Read x))
 
 -- its read gives a value, and it commits
 abbrev pub reads : ℕ → Name → List Entry
-reads seat n = by seat (event.End (access n 1) (Commit (answer.Value 0))) ∷ by seat (event.End n (Commit answer.Nothing)) ∷ []
+reads seat n = by seat (event.End (access n 1) (Commit (answer.Value (Number 0)))) ∷ by seat (event.End n (Commit answer.Nothing)) ∷ []
 
 -- its read is in conflict, and it is aborted
 abbrev pub fails : ℕ → Name → List Entry
@@ -57,7 +58,7 @@ fails seat n = by seat (event.End (access n 1) (Abort conflict)) ∷ by seat (ev
 
 -- the top reads x, and commits
 abbrev pub goes_on : Name → List Entry
-goes_on n = by client (event.Start n (kind.Read x)) ∷ by client (event.End n (Commit (answer.Value 0))) ∷ commits
+goes_on n = by client (event.Start n (kind.Read x)) ∷ by client (event.End n (Commit (answer.Value (Number 0)))) ∷ commits
 
 -- both begin, and the first fails
 abbrev pub first_fails : List Entry
@@ -119,7 +120,7 @@ turned_back entries =
 
 -- the first reads x meanwhile
 abbrev pub read_meanwhile : List Entry
-read_meanwhile = looks other_client first_child ∷ by other_client (event.End (access first_child 1) (Commit (answer.Value 0))) ∷ []
+read_meanwhile = looks other_client first_child ∷ by other_client (event.End (access first_child 1) (Commit (answer.Value (Number 0)))) ∷ []
 
 -- the first alone runs
 abbrev pub one_left_out : List Entry

@@ -1,5 +1,6 @@
 -- Bodies with steps at which the copy crashes.
 use Rattle.std.specs.Prelude.{false, List, ◌∷◌}
+use Rattle.qc_config.specs.Val.{Number}
 use Rattle.qc_event.specs.declared.event.Cause.TheVariants as cause
 use Rattle.qc_event.specs.declared.event.Entry.{Entry}
 use Rattle.qc_event.specs.declared.event.Event.TheVariants as event
@@ -15,7 +16,7 @@ crash rest = Plan.crash_then only_copy rest
 
 -- set x 5, read x: the copy crashes before each, and behind them
 abbrev pub around : List Numbered
-around = body_of (crash (manage_then (kind.Write x 5) (crash (manage_then (kind.Read x) (crash Plan.done)))))
+around = body_of (crash (manage_then (kind.Write x (Number 5)) (crash (manage_then (kind.Read x) (crash Plan.done)))))
 
 -- it crashes in a child that aborts itself, and again before read x
 abbrev pub in_child : List Numbered

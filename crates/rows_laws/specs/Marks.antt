@@ -1,5 +1,6 @@
 -- Trails in which a transaction marks a session.
 use Rattle.std.specs.Prelude.{ℕ, false, List, [], ◌∷◌}
+use Rattle.qc_config.specs.Val.{Number}
 use Rattle.qc_event.specs.declared.event.Answer.TheVariants as answer
 use Rattle.qc_event.specs.declared.event.Cause.TheVariants as cause
 use Rattle.qc_event.specs.declared.event.Entry.{Entry}
@@ -41,7 +42,7 @@ is_killed = by client (event.End top (Abort cause.Killed)) ∷ []
 -- the top reads x, and commits
 abbrev pub reads_on : List Entry
 reads_on =
-    by client (event.Start first_child (kind.Read x)) ∷ by client (event.End first_child (Commit (answer.Value 0))) ∷ commits
+    by client (event.Start first_child (kind.Read x)) ∷ by client (event.End first_child (Commit (answer.Value (Number 0)))) ∷ commits
 
 -- the top marks a session under another seat, and commits
 abbrev pub marks_elsewhere : List Entry

@@ -1,5 +1,6 @@
 -- Trails in which a child is aborted, of bodies where it must commit or need not.
 use Rattle.std.specs.Prelude.{Bool, true, false, List, [], ◌∷◌, ◌++◌}
+use Rattle.qc_config.specs.Val.{Number}
 use Rattle.qc_config.specs.declared.tuple.Op.TheVariants.{Get}
 use Rattle.qc_event.specs.declared.event.Answer.TheVariants as answer
 use Rattle.qc_event.specs.declared.event.Cause.TheVariants as cause
@@ -43,7 +44,7 @@ abbrev pub went_on : List Entry
 went_on =
     aborts_itself top first_child
     ++ by client (event.Start second_child (kind.Read x))
-    ∷ served (access second_child 1) Get old (by client (event.End second_child (Commit (answer.Value 0))) ∷ commits)
+    ∷ served (access second_child 1) Get old (by client (event.End second_child (Commit (answer.Value (Number 0)))) ∷ commits)
 
 -- a grandchild, which must commit, aborts the top
 abbrev pub far_body : Numbered

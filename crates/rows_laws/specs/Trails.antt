@@ -1,6 +1,7 @@
 -- Trails of small scripts: some follow them, and some only seem to.
 use Rattle.std.specs.Prelude.{◌==◌, if◌then◌else◌, ℕ, List, [], ◌∷◌, ◌++◌, None, Some, replicate, take, false, ◌+◌}
 use Rattle.qc_config.specs.Config.{Voting}
+use Rattle.qc_config.specs.Val.{Number}
 use Rattle.qc_config.specs.declared.tuple.Tuple.{Tuple}
 use Rattle.qc_config.specs.declared.tuple.Op.{Op}
 use Rattle.qc_config.specs.declared.tuple.Op.TheVariants.{Get, PutData}
@@ -72,10 +73,10 @@ abbrev pub one : Voting
 one = record { votes = 1 ∷ []; read = 1; write = 1 }
 
 abbrev pub old : Tuple
-old = record { version = 0; value = 0; generation = 0; config = one }
+old = record { version = 0; value = Number 0; generation = 0; config = one }
 
 abbrev pub new : Tuple
-new = record { version = 1; value = 5; generation = 0; config = one }
+new = record { version = 1; value = Number 5; generation = 0; config = one }
 
 abbrev pub by : ℕ → Event → Entry
 by seat event = record { seat = seat; event = event }
@@ -84,7 +85,7 @@ abbrev pub user : ℕ → Name → Entry
 user seat n = by seat (event.Start n (kind.User 0 0))
 
 abbrev pub put : Op
-put = PutData 1 5
+put = PutData 1 (Number 5)
 
 -- an access starts and asks the copy
 abbrev pub begun : ℕ → Name → Op → List Entry → List Entry
@@ -100,10 +101,10 @@ served n op t rest =
 abbrev pub read_before_set : List Entry
 read_before_set =
     user client top
-    ∷ by client (event.Start first_child (kind.Write x 5))
+    ∷ by client (event.Start first_child (kind.Write x (Number 5)))
     ∷ by client (event.Start second_child (kind.Read x))
     ∷ served (access second_child 1) Get old
-    (by client (event.End second_child (Commit (answer.Value 0)))
+    (by client (event.End second_child (Commit (answer.Value (Number 0))))
     ∷ served (access first_child 1) Get old
     (served (access first_child 2) put new
     (by client (event.End first_child (Commit answer.Nothing))
@@ -118,7 +119,7 @@ conflict = cause.Conflict only_copy (access first_child 2)
 abbrev pub own_conflict : List Entry
 own_conflict =
     user client top
-    ∷ by client (event.Start first_child (kind.Write x 5))
+    ∷ by client (event.Start first_child (kind.Write x (Number 5)))
     ∷ served (access first_child 1) Get old
     (served (access first_child 2) put new
     (by client (event.Start second_child (kind.Read x))
@@ -162,7 +163,7 @@ abbrev pub body_of : Plan → List Numbered
 body_of plan = record { number = 0; tries = 1; must = false; plan = plan } ∷ []
 
 abbrev pub set_then_read : List Numbered
-set_then_read = body_of (manage_then (kind.Write x 5) (manage_then (kind.Read x) Plan.done))
+set_then_read = body_of (manage_then (kind.Write x (Number 5)) (manage_then (kind.Read x) Plan.done))
 
 abbrev pub read_alone : List Numbered
 read_alone = body_of (manage_then (kind.Read x) Plan.done)
@@ -178,7 +179,7 @@ net = record { fates = []; hold = 1; patience = 4 }
 abbrev pub late_commit : List Entry
 late_commit =
     user client top
-    ∷ by client (event.Start first_child (kind.Write x 5))
+    ∷ by client (event.Start first_child (kind.Write x (Number 5)))
     ∷ served (access first_child 1) Get old
     (served (access first_child 2) put new
     (by client (event.End first_child (Commit answer.Nothing))
@@ -195,7 +196,7 @@ late_commit =
 
 abbrev pub set_and_read : List Numbered
 set_and_read =
-    record { number = 0; tries = 1; must = false; plan = manage_then (kind.Write x 5) Plan.done }
+    record { number = 0; tries = 1; must = false; plan = manage_then (kind.Write x (Number 5)) Plan.done }
     ∷ record { number = 1; tries = 1; must = false; plan = manage_then (kind.Read x) Plan.done }
     ∷ []
 
@@ -209,7 +210,7 @@ dropped_steps =
     ∷ []
 
 abbrev pub child_and_abort : List Numbered
-child_and_abort = body_of (Plan.child_then 1 1 false (manage_then (kind.Write x 5) (manage_then (kind.Read x) Plan.done)) (Plan.abort_then 0 Plan.done))
+child_and_abort = body_of (Plan.child_then 1 1 false (manage_then (kind.Write x (Number 5)) (manage_then (kind.Read x) Plan.done)) (Plan.abort_then 0 Plan.done))
 
 -- the first run under another seat, by a network that loses every request
 abbrev pub moved : Entry → Entry
@@ -224,13 +225,13 @@ lossy = record { fates = LoseAsk ∷ []; hold = 1; patience = 4 }
 abbrev pub first_run : List Entry
 first_run =
     user client top
-    ∷ by client (event.Start first_child (kind.Write x 5))
+    ∷ by client (event.Start first_child (kind.Write x (Number 5)))
     ∷ served (access first_child 1) Get old
     (served (access first_child 2) put new
     (by client (event.End first_child (Commit answer.Nothing))
     ∷ by client (event.Start second_child (kind.Read x))
     ∷ served (access second_child 1) Get new
-    (by client (event.End second_child (Commit (answer.Value 5)))
+    (by client (event.End second_child (Commit (answer.Value (Number 5))))
     ∷ by client (event.Ready top)
     ∷ by ledger_seat (event.End top (Commit answer.Nothing))
     ∷ [])))
@@ -276,7 +277,7 @@ abort_body levels = record { number = 0; tries = 1; must = false; plan = Plan.ch
 
 -- the body of the first run
 abbrev pub first_body : Numbered
-first_body = record { number = 0; tries = 1; must = false; plan = manage_then (kind.Write x 5) (manage_then (kind.Read x) Plan.done) }
+first_body = record { number = 0; tries = 1; must = false; plan = manage_then (kind.Write x (Number 5)) (manage_then (kind.Read x) Plan.done) }
 
 -- two tops of a session, each under a seat of its own
 abbrev pub two_seats : List Entry
@@ -302,7 +303,7 @@ tried_again =
     ∷ user client top2
     ∷ by client (event.Start reader2 (kind.Read x))
     ∷ served (access reader2 1) Get old
-    (by client (event.End reader2 (Commit (answer.Value 0)))
+    (by client (event.End reader2 (Commit (answer.Value (Number 0))))
     ∷ by client (event.Ready top2)
     ∷ by ledger_seat (event.End top2 (Commit answer.Nothing))
     ∷ []))

@@ -1,5 +1,6 @@
 -- Trails of two sessions, each of a client of its own.
 use Rattle.std.specs.Prelude.{ℕ, List, [], ◌∷◌}
+use Rattle.qc_config.specs.Val.{Number}
 use Rattle.qc_config.specs.declared.tuple.Op.TheVariants.{Get}
 use Rattle.qc_event.specs.declared.event.Answer.TheVariants as answer
 use Rattle.qc_event.specs.declared.event.Cause.TheVariants as cause
@@ -33,7 +34,7 @@ between session seat =
     ∷ by site (event.Granted only_copy (record { access = access first_child 1; rec = x; op = Get; tuple = old }))
     ∷ by ledger_seat (event.End top2 (Commit answer.Nothing))
     ∷ by client (event.End (access first_child 1) (Commit (answer.Reply old)))
-    ∷ by client (event.End first_child (Commit (answer.Value 0)))
+    ∷ by client (event.End first_child (Commit (answer.Value (Number 0))))
     ∷ by client (event.Ready top)
     ∷ by ledger_seat (event.End top (Commit answer.Nothing))
     ∷ [])

@@ -1,5 +1,6 @@
 -- Trails of steps that go by the value that a read gave.
 use Rattle.std.specs.Prelude.{ℕ, ◌-◌, ◌^◌, List, [], ◌∷◌}
+use Rattle.qc_config.specs.Val.{Number}
 use Rattle.qc_event.specs.declared.event.Answer.TheVariants as answer
 use Rattle.qc_event.specs.declared.event.Cause.TheVariants as cause
 use Rattle.qc_event.specs.declared.event.Entry.{Entry}
@@ -19,7 +20,7 @@ abbrev pub given_then : ℕ → List Entry → List Entry
 given_then value rest =
     user client top
     ∷ by client (event.Start first_child (kind.Read x))
-    ∷ by client (event.End first_child (Commit (answer.Value value)))
+    ∷ by client (event.End first_child (Commit (answer.Value (Number value))))
     ∷ rest
 
 -- the top commits
@@ -30,7 +31,7 @@ commits = by client (event.Ready top) ∷ by ledger_seat (event.End top (Commit 
 abbrev pub changed : ℕ → ℕ → List Entry
 changed read written =
     given_then read
-    (by client (event.Start second_child (kind.Write x written)) ∷ by client (event.End second_child (Commit answer.Nothing)) ∷ commits)
+    (by client (event.Start second_child (kind.Write x (Number written))) ∷ by client (event.End second_child (Commit answer.Nothing)) ∷ commits)
 
 -- a value is read, and the top commits
 abbrev pub enough : ℕ → List Entry

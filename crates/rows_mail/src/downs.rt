@@ -5,7 +5,8 @@ ghost use Rattle.qc_event.specs.History.{limit};
 ghost use Rattle.qc_event.specs.Tables.{setting_of};
 ghost use Rattle.qc_desk.specs.Consulting.{HasAsked};
 ghost use Rattle.qc_desk.specs.Known.{IsKnown};
-ghost use Rattle.qc_mail.specs.Serving.{HasAnswered, SeesMore};
+ghost use Rattle.qc_desk.specs.Calling.{SeesMore};
+ghost use Rattle.qc_mail.specs.Serving.{HasAnswered};
 
 use qc_desk::{Desk, Pass, Store};
 use qc_event::{Answered, Ask, Short, Why};

@@ -4,7 +4,7 @@ ghost use Rattle.qc_codec.specs.Fields as field;
 ghost use Rattle.qc_codec.specs.Fields.{format_1};
 ghost use Rattle.qc_config.specs.Config.{votes_of};
 
-use qc_config::{Config, Tuple};
+use qc_config::{Config, Tuple, Val};
 use std::alloc::{AllocError, Global};
 
 // Votes as `1,1`, and how many there are; none where they are too many or no numbers.
@@ -34,7 +34,7 @@ fn tuple(word: &str) -> Option<Tuple> {
     let (read, write) = (read.parse().ok()?, write.parse().ok()?);
     Some(Tuple {
         version: version.parse().ok()?,
-        value: value.parse().ok()?,
+        value: Val::number(value.parse().ok()?),
         generation: generation.parse().ok()?,
         config: Config::new(&votes[..count], read, write).ok()?,
     })
@@ -60,7 +60,8 @@ fn may_stand(tuple: &Tuple, copies: u8) -> bool
         return false;
     }
     config_in_range(&tuple.config);
-    let (_version, _value, _generation) = (tuple.version, tuple.value, tuple.generation);
+    let _value = tuple.value.as_number();
+    let (_version, _generation) = (tuple.version, tuple.generation);
     true
 }
 

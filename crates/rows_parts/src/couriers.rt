@@ -2,7 +2,7 @@
 ghost use Rattle.std.specs.Prelude.{◌≤◌, IfOk};
 
 use crate::Answer;
-use qc_config::{Config, Op, Tuple};
+use qc_config::{Config, Op, Tuple, Val};
 use qc_event::{Answered, Ask, Name, Short};
 use qc_net::{Courier, Fate, Link, PlanLink, Port, Sent};
 use rows_text::{BadLine, Words};
@@ -37,7 +37,7 @@ impl Port for Counting {
         Ok(match ask.op {
             Op::Get => Answered::Granted(Tuple {
                 version: self.deliveries,
-                value: 0,
+                value: Val::number(0),
                 generation: 0,
                 config: Config::none(),
             }),
@@ -112,7 +112,7 @@ fn print_sendings(
     for letter in letters.bytes() {
         let put = Op::PutData {
             version: 1,
-            value: 1,
+            value: Val::number(1),
         };
         let op = if letter == b'p' { put } else { Op::Get };
         print_sending(rt, &mut courier, &mut port, op, patience)?;

@@ -5,7 +5,7 @@
 
 ghost use Rattle.std.specs.Prelude.{◌≡◌, length, IfOk};
 
-use qc_event::{Base, Config, Entry, Label, Row, Rows, Table, Tuple};
+use qc_event::{Base, Config, Entry, Label, Row, Rows, Table, Tuple, Val};
 use qc_report::{History, finals, report, summary};
 use qc_trail::Trail;
 use rows_text::{Log, append_line};
@@ -18,7 +18,7 @@ const START: u64 = 7;
 fn table_of(alloc: Global, config: Config) -> Result<Table, AllocError> {
     let row = Row {
         name: Label::new(alloc, b"x")?,
-        start: START,
+        start: Val::number(START),
         config,
     };
     Ok(Table {
@@ -32,7 +32,7 @@ fn base_of(alloc: Global, config: Config) -> Result<Base, AllocError>
 {
     let first = Tuple {
         version: 0,
-        value: START,
+        value: Val::number(START),
         generation: 0,
         config,
     };

@@ -4,6 +4,7 @@ use Rattle.std.proofs.Common.{◌≡◌, ℕ, zero, suc, ◌<◌, List, [], ◌�
 use Rattle.std.specs.Prelude.{Option, None, Some, MatchOption, ◌==◌, ◌&&◌, nat_lt, find, filter, is_none, slice_index_or}
 use Rattle.std.proofs.lemmas.List.{append_cancel_right}
 use Rattle.qc_config.specs.Config.{Voting, IsLegal, votes_of}
+use Rattle.qc_config.specs.Val.{Number}
 use Rattle.qc_config.specs.declared.tuple.Tuple.{Tuple}
 use Rattle.qc_config.specs.declared.tuple.Op.TheVariants.{Get}
 use Rattle.qc_event.specs.declared.event.Ask.{Ask}
@@ -52,7 +53,7 @@ proper = record {
     first zero d less = config_fits
     first (suc n) d less = absurd (omega (arith, less))
 
-    tuple : (n : ℕ) (d : Tuple) → n < 1 → IsConfigFor 1 (slice_index_or (record { version = 0; value = 0; generation = 0; config = config } ∷ []) n d).config
+    tuple : (n : ℕ) (d : Tuple) → n < 1 → IsConfigFor 1 (slice_index_or (record { version = 0; value = Number 0; generation = 0; config = config } ∷ []) n d).config
     tuple zero d less = config_fits
     tuple (suc n) d less = absurd (omega (arith, less))
 

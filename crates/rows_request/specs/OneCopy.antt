@@ -1,6 +1,7 @@
 -- What the scene of a copy runs over: one record at one copy, which has the one vote.
 use Rattle.std.specs.Prelude.{ℕ, ◌≡◌, List, [], ◌∷◌, None, Some, MatchOption}
 use Rattle.qc_config.specs.Config.{Voting}
+use Rattle.qc_config.specs.Val.{Number}
 use Rattle.qc_config.specs.declared.tuple.Tuple.{Tuple}
 use Rattle.qc_event.specs.declared.event.Ask.{Ask}
 use Rattle.qc_event.specs.declared.event.Kind.TheVariants as kind
@@ -13,7 +14,7 @@ abbrev pub config : Voting
 config = record { votes = 1 ∷ []; read = 1; write = 1 }
 
 abbrev pub first : Tuple
-first = record { version = 0; value = 0; generation = 0; config = config }
+first = record { version = 0; value = Number 0; generation = 0; config = config }
 
 -- the copy's tuples as it starts
 abbrev pub start : List Tuple
@@ -23,7 +24,7 @@ abbrev pub base : List (List Tuple)
 base = start ∷ []
 
 abbrev pub table : Table
-table = record { copies = 1; records = record { name = []; start = 0; config = config } ∷ [] }
+table = record { copies = 1; records = record { name = []; start = Number 0; config = config } ∷ [] }
 
 -- A top was started under this seat, and below it stands this request of the record, to the copy, which has not granted
 -- it; its access asked under this seat, and is open.

@@ -6,7 +6,7 @@ ghost use Rattle.qc_desk.specs.Entries.{IsOlder};
 ghost use Rattle.qc_desk.specs.Rules.{IsClient};
 ghost use Rattle.rows_request.specs.OneCopy as words;
 
-use qc_config::{Config, Op, Tuple};
+use qc_config::{Config, Op, Tuple, Val};
 use qc_desk::{Desk, DeskNo, Pass, Store};
 use qc_event::{Ask, Kind, Name};
 use std::sync::Wait;
@@ -28,7 +28,7 @@ pub fn first_tuple(config: &Config) -> Tuple
 {
     Tuple {
         version: 0,
-        value: 0,
+        value: Val::number(0),
         generation: 0,
         config: *config,
     }

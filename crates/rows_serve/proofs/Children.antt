@@ -2,6 +2,7 @@
 use Rattle.std.proofs.Common.{◌≡◌, ℕ, ◌+◌, true, length, refl, sym, ap, subst}
 use Rattle.std.specs.Prelude.{None, Some, IsTrue, is_some}
 use Rattle.qc_names.specs.Name as name
+use Rattle.qc_config.specs.Val.{Datum}
 use Rattle.qc_event.specs.declared.event.Ask.{Ask}
 use Rattle.qc_event.specs.declared.event.Kind.{Kind}
 use Rattle.qc_event.specs.declared.event.Kind.TheVariants as kind
@@ -32,7 +33,7 @@ later p k n v w s = entered_as_later (against_child p) (IsNext p k n) v w s
 
 -- A MANAGER THAT WRITES
 
-module _ (setting : Setting) (seat : ℕ) (m : Name) (rec value : ℕ) (past : Past) (begun_m : start past m ≡ Some (record { seat = seat; kind = kind.Write rec value })) where
+module _ (setting : Setting) (seat : ℕ) (m : Name) (rec : ℕ) (value : Datum) (past : Past) (begun_m : start past m ≡ Some (record { seat = seat; kind = kind.Write rec value })) where
   pub mine : IsMine past seat m
   mine = match_some (start past m) (λ b. IsManager b.kind × (b.seat ≡ seat)) _ begun_m (tt, refl)
 

@@ -1,20 +1,14 @@
--- Started user transactions: none is the root, and one below a top may commit.
-use Rattle.std.proofs.Common.{◌<◌, ◌≤◌, length, refl}
+-- A started user transaction below a top may commit.
+use Rattle.std.proofs.Common.{◌≤◌, length, refl}
 use Rattle.qc_event.specs.declared.event.Answer.TheVariants as answer
 use Rattle.qc_event.specs.declared.event.Kind.{Kind}
 use Rattle.qc_event.specs.declared.event.Kind.TheVariants as kind
 use Rattle.qc_event.specs.Base.{Setting}
-use Rattle.qc_event.specs.History.{Past, Name, Begun, start}
-use Rattle.qc_event.specs.Legal.{Legal}
+use Rattle.qc_event.specs.History.{Name, Begun, start}
 use Rattle.qc_event.specs.Standing.{IsUser, Started}
-use Rattle.qc_event.proofs.Lawful.{lawful, nonroot, started_some}
-use Rattle.qc_event.proofs.LegalOrderly.{legal_orderly}
 use Rattle.qc_event.proofs.Options.{match_wider}
 use Rattle.qc_desk.specs.declared.view.View.{View}
 use Rattle.qc_desk.specs.Own.{CommitsOwn, MayCommitOwn}
-
-pub not_root : (setting : Setting) (past : Past) (n : Name) → Legal setting past → Started past n (λ b. IsUser b.kind) → 0 < length n
-not_root setting past n legal began = nonroot past n (lawful past (legal_orderly setting past legal)) (started_some (λ b. IsUser b.kind) (start past n) began)
 
 pub user_commits : (setting : Setting) (user : Name) (v : View) → Started v.seen user (λ b. IsUser b.kind) → 2 ≤ length user → MayCommitOwn setting v user answer.Nothing
 user_commits setting user v began deep =

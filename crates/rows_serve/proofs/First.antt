@@ -3,6 +3,7 @@ use Rattle.std.proofs.Common.{◌≡◌, ℕ, ◌+◌, ◌<◌, Bool, true, List
 use Rattle.std.specs.Prelude.{Option, None, Some, IsTrue, MatchOption, is_some, nat_le, option_to_list, if◌then◌else◌}
 use Rattle.std.specs.Option.{option_or, option_map}
 use Rattle.qc_names.specs.Name as name
+use Rattle.qc_config.specs.Val.{Datum}
 use Rattle.qc_config.specs.declared.tuple.Tuple.{Tuple}
 use Rattle.qc_config.specs.declared.tuple.Op.TheVariants.{PutData}
 use Rattle.qc_event.specs.Grants.{grant_with}
@@ -40,7 +41,7 @@ use Rattle.qc_desk.proofs.Entering.{started_later}
 use Rattle.qc_desk.proofs.OwnSince.{asks_same, access_end_same}
 use Rattle.qc_desk.proofs.Seers.{older_trans}
 use Rattle.qc_desk.specs.Rules.{IsClient}
-use Rattle.qc_site.specs.AtDesk.{IsGranted}
+use Rattle.qc_desk.specs.Answers.{IsGranted}
 use Rattle.rows_serve.specs.declared.client.Writer.{Writer}
 use Rattle.rows_serve.specs.Requests.{IsFirst, IsPut, MayPut, RequestStands}
 use Rattle.rows_serve.specs.TwoRecords.{IsOver}
@@ -117,7 +118,7 @@ module _ (over : Table) (base : List (List Tuple)) (o : IsOver over base) where
 
   -- THE FIRST REQUEST
 
-  pub manager_stands : (rec value : ℕ) (user : Name) (v : View) → rec < 2 → Started v.seen user (λ b. IsUser b.kind) → Started v.seen user (λ p. StandsThere s v.number p (length user + 1) (kind.Write rec value))
+  pub manager_stands : (rec : ℕ) (value : Datum) (user : Name) (v : View) → rec < 2 → Started v.seen user (λ b. IsUser b.kind) → Started v.seen user (λ p. StandsThere s v.number p (length user + 1) (kind.Write rec value))
   manager_stands rec value user v less began =
       match_wider (start v.seen user) (λ b. IsUser b.kind) (λ p. StandsThere s v.number p (length user + 1) (kind.Write rec value)) (λ b is. (is, is_record over base rec o less)) began
 
@@ -129,7 +130,7 @@ module _ (over : Table) (base : List (List Tuple)) (o : IsOver over base) where
   child_begun user kid v w m legal long =
       match_some (start w.seen kid) (λ b. IsUser b.kind) _ (child.begun s v.number user (kind.User 0 0) v w kid (child.child_of s (against_child user) v.number user (kind.User 0 0) v w kid m legal refl long)) tt
 
-  module _ (rec value : ℕ) (top manager : Name) (v w : View) (m : StartsChild top (kind.Write rec value) manager v w) (legal_w : Legal s w.seen) (long : 0 < length top) where
+  module _ (rec : ℕ) (value : Datum) (top manager : Name) (v w : View) (m : StartsChild top (kind.Write rec value) manager v w) (legal_w : Legal s w.seen) (long : 0 < length top) where
     begun_by : (seat : ℕ) → v.number ≡ seat → start w.seen manager ≡ Some (record { seat = seat; kind = kind.Write rec value })
     begun_by seat number = child.begun s seat top (kind.Write rec value) v w manager (child.child_of s (against_child top) seat top (kind.Write rec value) v w manager m legal_w number long)
 
@@ -189,7 +190,7 @@ module _ (over : Table) (base : List (List Tuple)) (o : IsOver over base) where
 
   -- THE WAY OF A NEW MANAGER
 
-  module _ (rec value : ℕ) (user manager access : Name) (v w x : View) (m : StartsChild user (kind.Write rec value) manager v w) (a : StartsChild manager kind.Access access w x) where
+  module _ (rec : ℕ) (value : Datum) (user manager access : Name) (v w x : View) (m : StartsChild user (kind.Write rec value) manager v w) (a : StartsChild manager kind.Access access w x) where
     set_number : x.number ≡ v.number
     set_number = same_number manager kind.Access access w x a ∙ same_number user (kind.Write rec value) manager v w m
 
@@ -225,7 +226,7 @@ module _ (over : Table) (base : List (List Tuple)) (o : IsOver over base) where
   }
 
   -- a manager's access takes its reply
-  module _ (ask : Ask) (manager : Name) (rec value : ℕ) (t : Tuple) (v w : View) (begun_v : start v.seen manager ≡ Some (record { seat = v.number; kind = kind.Write rec value })) (child_v : is_child_of manager ask.access ≡ true) (open_v : end v.seen ask.access ≡ None)
+  module _ (ask : Ask) (manager : Name) (rec : ℕ) (value : Datum) (t : Tuple) (v w : View) (begun_v : start v.seen manager ≡ Some (record { seat = v.number; kind = kind.Write rec value })) (child_v : is_child_of manager ask.access ≡ true) (open_v : end v.seen ask.access ≡ None)
       (e : Entered (against_access ask.access) (event.End ask.access (Commit (Reply t))) v w) (legal_w : Legal s w.seen) where
     number : w.number ≡ v.number
     number = ap (λ (x : View). x.number) e.3
@@ -255,7 +256,7 @@ module _ (over : Table) (base : List (List Tuple)) (o : IsOver over base) where
 
   -- THE SECOND REQUEST
 
-  module _ (ask : Ask) (manager : Name) (value : ℕ) (t : Tuple) (v w : View) (f : IsFirst v.seen v.number ask manager value) (e : Entered (against_access ask.access) (event.End ask.access (Commit (Reply t))) v w) (legal_w : Legal s w.seen) where
+  module _ (ask : Ask) (manager : Name) (value : Datum) (t : Tuple) (v w : View) (f : IsFirst v.seen v.number ask manager value) (e : Entered (against_access ask.access) (event.End ask.access (Commit (Reply t))) v w) (legal_w : Legal s w.seen) where
     first_begun : start w.seen manager ≡ Some (record { seat = w.number; kind = kind.Write ask.rec value })
     first_begun = begun_w ask manager ask.rec value t v w f.begun f.child f.own.is_open.not_ended e legal_w
 
@@ -359,7 +360,7 @@ module _ (over : Table) (base : List (List Tuple)) (o : IsOver over base) where
 
   -- THE COMMIT
 
-  module _ (ask : Ask) (manager : Name) (value : ℕ) (t : Tuple) (v w : View) (p : IsPut v.seen v.number ask manager value) (e : Entered (against_access ask.access) (event.End ask.access (Commit (Reply t))) v w) (legal_w : Legal s w.seen) where
+  module _ (ask : Ask) (manager : Name) (value : Datum) (t : Tuple) (v w : View) (p : IsPut v.seen v.number ask manager value) (e : Entered (against_access ask.access) (event.End ask.access (Commit (Reply t))) v w) (legal_w : Legal s w.seen) where
     older_w : IsOlder v.seen w.seen
     older_w = entered_later (against_access ask.access) (event.End ask.access (Commit (Reply t))) v w e
 

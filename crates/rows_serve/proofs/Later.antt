@@ -1,6 +1,7 @@
 -- What a client knows of its requests, once its pass has seen more.
 use Rattle.std.proofs.Common.{◌≡◌, ℕ, ◌<◌, ◌≤◌, true, ◌++◌, sym, ap, ◌∙◌, subst}
 use Rattle.std.specs.Prelude.{Option, None, Some, IfSome}
+use Rattle.qc_config.specs.Val.{Datum}
 use Rattle.qc_config.specs.declared.tuple.Tuple.{Tuple}
 use Rattle.qc_event.specs.Grants.{grant_with}
 use Rattle.qc_event.specs.declared.event.Ask.{Ask}
@@ -11,9 +12,8 @@ use Rattle.qc_event.specs.Legal.{Legal}
 use Rattle.qc_event.specs.Standing.{IsUser, IsManager}
 use Rattle.qc_event.proofs.Later.{start_still, started_still}
 use Rattle.qc_event.proofs.StillTold.{begun_still, is_stays, match_stays}
-use Rattle.qc_ledger.specs.Entered.{SeesMore}
 use Rattle.qc_desk.specs.declared.view.View.{View}
-use Rattle.qc_desk.specs.Calling.{Shown}
+use Rattle.qc_desk.specs.Calling.{Shown, SeesMore}
 use Rattle.qc_desk.specs.Known.{IsKnown}
 use Rattle.qc_desk.specs.Entries.{AreOthers, IsOlder, IsSince, entries_of}
 use Rattle.qc_desk.specs.Own.{IsMine, IsOwnAccess}
@@ -22,7 +22,7 @@ use Rattle.qc_desk.proofs.Consulting.{asked_later}
 use Rattle.qc_desk.proofs.Entering.{started_later}
 use Rattle.qc_desk.proofs.OwnSince as own
 use Rattle.qc_desk.proofs.Since as since
-use Rattle.qc_site.specs.AtDesk.{IsGranted}
+use Rattle.qc_desk.specs.Answers.{IsGranted}
 use Rattle.rows_serve.specs.declared.client.Client.{Client}
 use Rattle.rows_serve.specs.declared.client.Request.{Request}
 use Rattle.rows_serve.specs.declared.client.Writer.{Writer}
@@ -58,7 +58,7 @@ of_others v w client before now s =
     since.since v.number v.seen w.seen s.older
     (ap (λ n. entries_of n w.seen) (sym s.number) ∙ sym (now (s.live ∙ client.0)) ∙ s.mine ∙ before client.0)
 
-module _ (setting : Setting) (past newer : Past) (seat : ℕ) (ask : Ask) (manager : Name) (value : ℕ) (legal : Legal setting (newer ++ past)) (all : AreOthers seat newer) where
+module _ (setting : Setting) (past newer : Past) (seat : ℕ) (ask : Ask) (manager : Name) (value : Datum) (legal : Legal setting (newer ++ past)) (all : AreOthers seat newer) where
   -- its access stays open
   own_then : IsMine past seat manager → is_child manager ask.access ≡ true → IsOwnAccess past seat ask.access → IsOwnAccess (newer ++ past) seat ask.access
   own_then mine child o = record {

@@ -4,6 +4,7 @@ use Rattle.std.specs.Prelude.{Option, None, Some, IsTrue, MatchOption, not, ◌=
 use Rattle.std.specs.List.{cons_option, list_all, list_any}
 use Rattle.std.proofs.lemmas.Bool.{false_from_ne_true}
 use Rattle.qc_config.specs.Config.{votes_of}
+use Rattle.qc_config.specs.Val.{Datum}
 use Rattle.qc_config.specs.declared.tuple.Tuple.{Tuple}
 use Rattle.qc_config.specs.declared.tuple.Op.TheVariants.{Get, PutData}
 use Rattle.qc_event.specs.declared.event.Answer.TheVariants.{Reply}
@@ -25,14 +26,14 @@ abbrev pub next_by : Phase → List Ask → Option ℕ
 next_by phase requests = find (λ copy. nat_lt 0 (votes_of config copy) && is_none (find (λ (ask : Ask). ask.copy == copy) (filter (λ (ask : Ask). is_phase phase (phase_of ask.op)) requests))) all_copies
 
 -- the stage at which the value is put
-abbrev pub putting : ℕ → ℕ → Stage
+abbrev pub putting : ℕ → Datum → Stage
 putting version value = record { phase = Values; config = config; op = PutData (version + 1) value; writes = true }
 
 -- the request for a tuple
 abbrev pub getting : Name → ℕ → Ask
 getting access rec = record { access = access; copy = 0; rec = rec; op = Get }
 
-module _ (over : Table) (base : List (List Tuple)) (rec value : ℕ) (o : IsOver over base) (less : rec < 2) (past : Past) (m : Name) (ask : Ask) (to_copy : ask.copy ≡ 0) (of_record : ask.rec ≡ rec) where
+module _ (over : Table) (base : List (List Tuple)) (rec : ℕ) (value : Datum) (o : IsOver over base) (less : rec < 2) (past : Past) (m : Name) (ask : Ask) (to_copy : ask.copy ≡ 0) (of_record : ask.rec ≡ rec) where
   at : (s : Stage) → stage past config m (kind.Write rec value) ≡ Some s → IsNextAsk past m (kind.Write rec value) ask s → AtStage (setting_of over base) past m (kind.Write rec value) (IsNextAsk past m (kind.Write rec value) ask)
   at s is next = subst (λ t. MatchOption t ⊥ (IsNextAsk past m (kind.Write rec value) ask)) (sym (ap (λ f. stage past f m (kind.Write rec value)) (first_is over base rec o less) ∙ is)) next
 
@@ -64,11 +65,11 @@ module _ (over : Table) (base : List (List Tuple)) (rec value : ℕ) (o : IsOver
 -- THE COMMIT
 
 -- the request that the value is put
-abbrev pub putting_ask : Name → ℕ → ℕ → ℕ → Ask
+abbrev pub putting_ask : Name → ℕ → ℕ → Datum → Ask
 putting_ask access rec version value = record { access = access; copy = 0; rec = rec; op = PutData (version + 1) value }
 
 -- whether a manager that writes is complete, by the replies to its reads and by who replied in each phase
-abbrev complete_of : ℕ → ℕ → List Tuple → (Phase → ℕ → Bool) → Bool
+abbrev complete_of : ℕ → Datum → List Tuple → (Phase → ℕ → Bool) → Bool
 complete_of rec value tuples has =
     not (enough_of has (collecting (newest_of tuples config)) && is_last (kind.Write rec value) (newest_of tuples config) (greatest_among tuples))
     && list_all (enough_of has) (stages_by (kind.Write rec value) (newest_of tuples config) (greatest_among tuples))
@@ -79,10 +80,10 @@ has_two x y Collect copy = list_any (λ (r : Option Result). (0 == copy) && is_s
 has_two x y Values copy = list_any (λ (r : Option Result). (0 == copy) && is_some (reply_of r)) (y ∷ [])
 has_two x y Configs copy = false
 
-abbrev complete_by : ℕ → ℕ → Option Result → Option Result → Bool
+abbrev complete_by : ℕ → Datum → Option Result → Option Result → Bool
 complete_by rec value x y = complete_of rec value (cons_option (reply_of x) []) (has_two x y)
 
-both_replied : (rec value : ℕ) (t t' : Tuple) → t.generation ≡ 0 → t.version + 1 < 2 ^ 64 → complete_by rec value (Some (Replied t)) (Some (Replied t')) ≡ true
+both_replied : (rec : ℕ) (value : Datum) (t t' : Tuple) → t.generation ≡ 0 → t.version + 1 < 2 ^ 64 → complete_by rec value (Some (Replied t)) (Some (Replied t')) ≡ true
 both_replied rec value t t' first small =
     ap (λ g. complete_by rec value (Some (Replied (record { version = t.version; value = t.value; generation = g; config = t.config }))) (Some (Replied t'))) first
     ∙ ap (λ (b : Bool). not b && true) not_last
@@ -91,7 +92,7 @@ both_replied rec value t t' first small =
     not_last = false_from_ne_true (t.version == 2 ^ 64 - 1) (λ is. absurd (omega (arith, small, eqb-true t.version (2 ^ 64 - 1) is)))
 
 -- its two requests were replied to
-pub is_done : (over : Table) (base : List (List Tuple)) (rec value : ℕ) → IsOver over base → rec < 2 → (past : Past) (m a b : Name) (r r' : ℕ) (t t' : Tuple) → asks past m ≡ getting a r ∷ putting_ask b r' t.version value ∷ []
+pub is_done : (over : Table) (base : List (List Tuple)) (rec : ℕ) (value : Datum) → IsOver over base → rec < 2 → (past : Past) (m a b : Name) (r r' : ℕ) (t t' : Tuple) → asks past m ≡ getting a r ∷ putting_ask b r' t.version value ∷ []
     → end past a ≡ Some (Commit (Reply t)) → end past b ≡ Some (Commit (Reply t')) → t.generation ≡ 0 → t.version + 1 < 2 ^ 64 → IsTrue (is_complete past (first_for (setting_of over base) (kind.Write rec value)) m (kind.Write rec value))
 is_done over base rec value o less past m a b r r' t t' two ended_a ended_b first small =
     ap (λ f. is_complete past f m (kind.Write rec value)) (first_is over base rec o less)

@@ -1,5 +1,6 @@
 -- What a client knows of its request.
 use Rattle.std.specs.Prelude.{ℕ, ◌≡◌, ◌<◌, ◌+◌, ◌^◌, true, [], ◌∷◌, Some, IfSome, MatchOption}
+use Rattle.qc_config.specs.Val.{Datum}
 use Rattle.qc_config.specs.declared.tuple.Op.TheVariants.{Get, PutData}
 use Rattle.qc_config.specs.declared.tuple.Tuple.{Tuple}
 use Rattle.qc_event.specs.Grants.{grant_with}
@@ -11,7 +12,7 @@ use Rattle.qc_event.specs.History.{Past, Name, start, end, asked, asks, is_child
 use Rattle.qc_event.specs.Standing.{Started, IsUser}
 use Rattle.qc_desk.specs.Consulting.{HasAsked}
 use Rattle.qc_desk.specs.Own.{IsOwnAccess}
-use Rattle.qc_site.specs.AtDesk.{IsGranted}
+use Rattle.qc_desk.specs.Answers.{IsGranted}
 use Rattle.rows_serve.specs.declared.client.Client.{Client}
 use Rattle.rows_serve.specs.declared.client.Request.{Request}
 
@@ -23,7 +24,7 @@ pub record RequestStands (past : Past) (r : Request) : Type 0 where
   pub granted : IfSome r.granted (λ tuple. IsGranted 0 past (grant_with r.ask tuple))
 
 -- It is the one request so far of a manager that writes a value, and its access is open.
-pub record IsFirst (past : Past) (seat : ℕ) (ask : Ask) (manager : Name) (value : ℕ) : Type 0 where
+pub record IsFirst (past : Past) (seat : ℕ) (ask : Ask) (manager : Name) (value : Datum) : Type 0 where
   pub begun : start past manager ≡ Some (record { seat = seat; kind = kind.Write ask.rec value })
   pub within : ask.rec < 2
   pub gets : ask.op ≡ Get
@@ -40,7 +41,7 @@ pub record MayPut (tuple : Tuple) : Type 0 where
 
 -- It is the second request of a manager that writes a value, which puts it, and its access is open. The first was told
 -- the tuple.
-pub record IsPut (past : Past) (seat : ℕ) (ask : Ask) (manager : Name) (value : ℕ) : Type 0 where
+pub record IsPut (past : Past) (seat : ℕ) (ask : Ask) (manager : Name) (value : Datum) : Type 0 where
   pub first : Ask
   pub tuple : Tuple
   pub begun : start past manager ≡ Some (record { seat = seat; kind = kind.Write ask.rec value })

@@ -1,5 +1,6 @@
 -- What the rows run over: two records at one copy, which has the one vote.
 use Rattle.std.specs.Prelude.{◌≡◌, List, [], ◌∷◌}
+use Rattle.qc_config.specs.Val.{Number}
 use Rattle.qc_config.specs.Config.{Voting}
 use Rattle.qc_config.specs.declared.tuple.Tuple.{Tuple}
 use Rattle.qc_event.specs.declared.table.Row.{Row}
@@ -10,7 +11,7 @@ config = record { votes = 1 ∷ []; read = 1; write = 1 }
 
 -- a record that is so configured
 abbrev pub row : Row
-row = record { name = []; start = 0; config = config }
+row = record { name = []; start = Number 0; config = config }
 
 abbrev pub table : Table
 table = record { copies = 1; records = row ∷ row ∷ [] }

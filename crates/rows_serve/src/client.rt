@@ -5,20 +5,20 @@ ghost use Rattle.qc_event.specs.History.{Past};
 ghost use Rattle.qc_event.specs.Standing.{Started, IsUser};
 ghost use Rattle.qc_desk.specs.Entries.{IsOlder};
 ghost use Rattle.qc_desk.specs.Rules.{IsClient};
-ghost use Rattle.qc_site.specs.AtDesk.{IsGranted};
+ghost use Rattle.qc_desk.specs.Answers.{IsGranted};
 ghost use Rattle.rows_serve.specs.Requests.{IsFirst, IsFirstOf, IsPut, IsPutOf, Knows, MayPut, RequestStands};
 ghost use Rattle.rows_serve.specs.TwoRecords.{IsOver};
 
 use qc_config::{Op, Tuple};
 use qc_desk::{Desk, DeskNo, Pass, Store};
-use qc_event::{Answer, Ask, Cause, Kind, Name};
+use qc_event::{Answer, Ask, Cause, Kind, Name, Val};
 use std::sync::Wait;
 
 /// A manager that writes a value.
 #[derive(Clone, Copy)]
 pub struct Writer {
     pub manager: Name,
-    pub value: u64,
+    pub value: Val,
 }
 
 /// A request of a client: its user transaction, what was asked, whose it is where it is the first of a manager that has
@@ -73,7 +73,7 @@ fn set_below<N: Store, R: Wait>(
     pass: &mut Pass<N>,
     user: &Name,
     rec: u8,
-    value: u64,
+    value: Val,
 ) -> Result<Request, DeskNo>
     requires client { IsClient pass.old }
     requires over { IsOver N.table N.base }
@@ -114,7 +114,7 @@ pub(crate) fn set<N: Store, R: Wait>(
     desk: &Desk<N>,
     pass: &mut Pass<N>,
     rec: u8,
-    value: u64,
+    value: Val,
 ) -> Result<Request, DeskNo>
     requires client { IsClient pass.old }
     requires over { IsOver N.table N.base }
@@ -138,7 +138,7 @@ pub(crate) fn set_child<N: Store, R: Wait>(
     pass: &mut Pass<N>,
     request: &Request,
     rec: u8,
-    value: u64,
+    value: Val,
 ) -> Result<Request, DeskNo>
     requires client { IsClient pass.old }
     requires over { IsOver N.table N.base }

@@ -2,9 +2,8 @@
 ghost use Rattle.std.specs.Prelude.{◌≡◌};
 ghost use Rattle.std.specs.Bool.{OnTrue};
 ghost use Rattle.qc_event.specs.Standing.{HasEnded};
-ghost use Rattle.qc_desk.specs.Calling.{Shown};
+ghost use Rattle.qc_desk.specs.Calling.{Shown, SeesMore};
 ghost use Rattle.qc_desk.specs.Rules.{IsClient};
-ghost use Rattle.qc_ledger.specs.Entered.{SeesMore};
 ghost use Rattle.rows_serve.specs.Requests.{Knows};
 ghost use Rattle.rows_serve.specs.TwoRecords.{IsOver};
 

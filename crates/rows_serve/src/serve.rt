@@ -6,7 +6,7 @@ ghost use Rattle.qc_event.specs.declared.event.Answered.TheVariants.{Granted};
 ghost use Rattle.qc_event.specs.History.{Past};
 ghost use Rattle.qc_desk.specs.Entries.{IsOlder};
 ghost use Rattle.qc_desk.specs.Rules.{IsClient};
-ghost use Rattle.qc_site.specs.AtDesk.{IsGranted};
+ghost use Rattle.qc_desk.specs.Answers.{IsGranted};
 ghost use Rattle.rows_serve.specs.Requests.{IsFirstOf, IsPutOf, RequestStands};
 ghost use Rattle.rows_serve.specs.TwoRecords.{IsOver};
 

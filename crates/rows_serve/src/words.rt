@@ -15,6 +15,7 @@ use crate::serve::serve;
 use crate::served::Served;
 use qc_desk::{Desk, Pass, Store};
 use qc_disk::HomeDisk;
+use qc_event::Val;
 use qc_site::Site;
 use rows_kit::{Step, bytes, said};
 use std::alloc::{AllocError, Global};
@@ -78,7 +79,8 @@ fn begin<N: Store, R: Wait>(
 {
     let before = plain(&client.now);
     let rec = record_of(step.word(0));
-    match set(tools.rt, desk, pass, rec, step.number(1)) {
+    let value = Val::number(step.number(1));
+    match set(tools.rt, desk, pass, rec, value) {
         Ok(request) => {
             client.now = Some(request);
             client.before = before;
@@ -115,7 +117,8 @@ fn begin_below<N: Store, R: Wait>(
     }
     let before = plain(&client.now);
     let rec = record_of(step.word(0));
-    match set_child(tools.rt, desk, pass, &request, rec, step.number(1)) {
+    let value = Val::number(step.number(1));
+    match set_child(tools.rt, desk, pass, &request, rec, value) {
         Ok(next) => {
             client.now = Some(next);
             client.before = before;

@@ -17,7 +17,7 @@ impl Words<'_> {
             }),
             "write" => Ok(Kind::Write {
                 rec: self.number()?,
-                value: self.number()?,
+                value: self.value()?,
             }),
             "reconf" => Ok(Kind::Reconf {
                 rec: self.number()?,
@@ -83,7 +83,7 @@ impl Words<'_> {
     fn answer(&mut self) -> Result<Answer, BadLine> {
         match self.word()? {
             "nothing" => Ok(Answer::Nothing),
-            "value" => Ok(Answer::Value(self.number()?)),
+            "value" => Ok(Answer::Value(self.value()?)),
             "generation" => Ok(Answer::Generation(self.number()?)),
             "reply" => Ok(Answer::Reply(self.tuple()?)),
             _ => Err(BadLine::Word),

@@ -1,8 +1,8 @@
-//! Configurations, tuples and operations in words.
+//! Values, configurations, tuples and operations in words.
 ghost use Rattle.std.specs.Prelude.{◌≤◌, IfOk};
 
 use crate::words::{BadLine, Words, number_of};
-use qc_event::{Config, Op, Tuple};
+use qc_event::{Config, Op, Tuple, Val};
 
 fn threshold_of(text: &str, letter: char) -> Result<u64, BadLine> {
     number_of(text.strip_prefix(letter).ok_or(BadLine::Word)?)
@@ -25,6 +25,11 @@ fn votes_of(text: &str) -> Result<([u8; 16], usize), BadLine>
 }
 
 impl Words<'_> {
+    /// A value, which is a number.
+    pub fn value(&mut self) -> Result<Val, BadLine> {
+        Ok(Val::number(self.number()?))
+    }
+
     /// A configuration, as `1,1,1 r2 w2`; `none` is the one without votes.
     pub fn config(&mut self) -> Result<Config, BadLine> {
         let text = self.word()?;
@@ -41,7 +46,7 @@ impl Words<'_> {
     pub fn tuple(&mut self) -> Result<Tuple, BadLine> {
         Ok(Tuple {
             version: self.number()?,
-            value: self.number()?,
+            value: self.value()?,
             generation: self.number()?,
             config: self.config()?,
         })
@@ -53,7 +58,7 @@ impl Words<'_> {
             "get" => Ok(Op::Get),
             "put" => Ok(Op::PutData {
                 version: self.number()?,
-                value: self.number()?,
+                value: self.value()?,
             }),
             "configure" => Ok(Op::PutConfig {
                 generation: self.number()?,

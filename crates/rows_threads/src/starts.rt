@@ -2,24 +2,24 @@
 
 use crate::renamed::about;
 use crate::spoiled::Spoiled;
-use qc_event::{Entry, Event, Kind};
+use qc_event::{Entry, Event, Kind, Val};
 use std::alloc::{AllocError, Global};
 
 // Another kind in place of one, where it is the one that is spoilt.
 fn other_kind(slip: &str, kind: &Kind) -> Option<Kind> {
-    match (slip, *kind) {
+    match (slip, kind) {
         ("value", Kind::Write { rec, value }) => Some(Kind::Write {
-            rec,
-            value: value.wrapping_add(1),
+            rec: *rec,
+            value: Val::number(value.as_number().wrapping_add(1)),
         }),
-        ("record", Kind::Read { rec }) => Some(Kind::Read { rec: rec ^ 1 }),
+        ("record", Kind::Read { rec }) => Some(Kind::Read { rec: *rec ^ 1 }),
         ("body", Kind::User { session, body }) => Some(Kind::User {
-            session,
+            session: *session,
             body: body.wrapping_add(1),
         }),
         ("session", Kind::User { session, body }) => Some(Kind::User {
-            session: session ^ 1,
-            body,
+            session: *session ^ 1,
+            body: *body,
         }),
         _ => None,
     }

@@ -47,12 +47,12 @@ fn serial_event(words: &mut Words<'_>) -> Result<SerialEvent, BadLine> {
         "read" => Ok(SerialEvent::Read {
             name,
             rec: words.number()?,
-            value: words.number()?,
+            value: words.value()?,
         }),
         "write" => Ok(SerialEvent::Write {
             name,
             rec: words.number()?,
-            value: words.number()?,
+            value: words.value()?,
         }),
         "leave" => Ok(SerialEvent::Leave(name)),
         "skip" => Ok(SerialEvent::Skip(name)),
@@ -63,7 +63,7 @@ fn serial_event(words: &mut Words<'_>) -> Result<SerialEvent, BadLine> {
 fn record(alloc: Global, words: &mut Words<'_>) -> Result<Row, Wrong> {
     Ok(Row {
         name: Label::new(alloc, words.word()?.as_bytes())?,
-        start: words.number()?,
+        start: words.value()?,
         config: words.config()?,
     })
 }

@@ -18,12 +18,13 @@ pub struct StopShop {
 }
 
 impl StopShop {
+    ghost use Rattle.std.specs.Prelude.{map, vec_items};
     ghost use Rattle.qc_disk.specs.Given.{given_list};
-    ghost use Rattle.qc_disk.specs.StopShop.{stop_disks, bytes_in};
+    ghost use Rattle.qc_disk.specs.StopShop.{stop_disks};
 
     /// A shop of disks of these bytes by their numbers, which stop at this call of them, counted from 1.
     pub fn new(disks: Vec<Vec<u8>>, stop: u64) -> Result<Self, AllocError>
-        ensures disks { IfOk result (λ shop. stop_disks shop ≡ bytes_in disks.items) }
+        ensures disks { IfOk result (λ shop. stop_disks shop ≡ map vec_items disks.items) }
         ensures gave { IfOk result (λ shop. given_list shop.given ≡ []) }
     {
         let alloc = *disks.allocator();

@@ -1,13 +1,12 @@
 -- What a client made meanwhile, by what is its own before and after; and who has more kin.
-use Rattle.std.proofs.Common.{◌≡◌, inl, inr, ℕ, ◌≤◌, Bool, true, false, List, [], ◌∷◌, ◌++◌, length, refl, sym, ap, ◌∙◌, subst, append_assoc, arith, length-append}
+use Rattle.std.proofs.Common.{◌≡◌, ℕ, ◌≤◌, Bool, true, false, List, [], ◌∷◌, ◌++◌, length, refl, sym, ap, ◌∙◌, subst, append_assoc, arith, length-append}
 use mathlib.Core.Bool.{true≢false}
 use Rattle.std.specs.Prelude.{◌||◌, not, if◌then◌else◌, filter, ◌==◌}
 use Rattle.std.specs.List.{AllByRecursion, list_any}
 use Rattle.std.proofs.lemmas.List.{append_cancel_right}
 use Rattle.std.proofs.lemmas.List.Elements.{filter-append}
 use Rattle.std.proofs.lemmas.List.Folds.{list_any-append}
-use Rattle.std.proofs.lemmas.Bool.{ne_eqb, or_left}
-use Rattle.std.proofs.lemmas.Bool.Decides.{eqb_tells}
+use Rattle.std.proofs.lemmas.Bool.{eq-eqb, ne_eqb, or_left}
 use Rattle.qc_event.specs.declared.event.Entry.{Entry}
 use Rattle.qc_event.specs.History.{Past, Name, limit, end_in, ready_in}
 use Rattle.qc_event.specs.Legal.{Legal}
@@ -123,9 +122,6 @@ pub none_under : (seat : ℕ) (past : Past) → NoneUnder seat past → NoneIn (
 none_under seat [] none = tt
 none_under seat (e ∷ past) none = (ap (λ b. b || false) (ne_eqb seat e.seat (λ is. none.0 (sym is))), none_under seat past none.1)
 
-pub eqb_same : (n : ℕ) → (n == n) ≡ true
-eqb_same n = elim (eqb_tells n n) [ inl h ↦ h.0 | inr h ↦ absurd (h.1 refl) ]
-
 abbrev pub without : ℕ → List ℕ → List ℕ
 without n l = filter (λ k. not (k == n)) l
 
@@ -139,7 +135,7 @@ left_as n (k ∷ l) none = by_test (k == n) none (left_as n l)
     by_test false none more = ap (λ y. k ∷ y) (more none)
 
 pub left_out : (n : ℕ) (l : List ℕ) → list_any (λ k. k == n) l ≡ false → without n (n ∷ l) ≡ l
-left_out n l none = ap (λ b. if not b then n ∷ without n l else without n l) (eqb_same n) ∙ left_as n l none
+left_out n l none = ap (λ b. if not b then n ∷ without n l else without n l) (eq-eqb n n refl) ∙ left_as n l none
 
 -- REFUSALS
 

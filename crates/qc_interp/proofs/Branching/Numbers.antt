@@ -3,11 +3,11 @@ use Rattle.std.proofs.Common.{◌≡◌, ℕ, Bool, true, false, List, [], ◌�
 use mathlib.Core.Bool.{true≢false}
 use Rattle.std.specs.Prelude.{Option, ◌||◌, not, ◌==◌, if◌then◌else◌}
 use Rattle.std.specs.List.{AllByRecursion, list_any}
-use Rattle.std.proofs.lemmas.Bool.{ne_eqb, or_right}
+use Rattle.std.proofs.lemmas.Bool.{eq-eqb, ne_eqb, or_right}
 use Rattle.qc_net.specs.Messages.{Net}
 use Rattle.qc_script.specs.Calls.{MeetsLink}
 use Rattle.qc_interp.specs.AtOnce.{StandingBranch, AreOut}
-use Rattle.qc_interp.proofs.Branching.MadeBy.{without, left_out, eqb_same}
+use Rattle.qc_interp.proofs.Branching.MadeBy.{without, left_out}
 
 abbrev pub is_in : List ℕ → ℕ → Bool
 is_in l n = list_any (λ k. k == n) l
@@ -38,7 +38,7 @@ fresh_rest n ns out h = fresh_fewer ns (n ∷ out) out (λ k. by_test (n == k) k
     by_test false k h = h
 
 first_in : (n : ℕ) (l : List ℕ) → is_in (n ∷ l) n ≡ true
-first_in n l = ap (λ b. b || is_in l n) (eqb_same n)
+first_in n l = ap (λ b. b || is_in l n) (eq-eqb n n refl)
 
 pub still_in : (n : ℕ) (ns out : List ℕ) → is_in out n ≡ true → is_in (out_with ns out) n ≡ true
 still_in n [] out h = h

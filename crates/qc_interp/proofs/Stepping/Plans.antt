@@ -2,6 +2,7 @@
 use Rattle.std.proofs.Common.{◌≡◌, ℕ, zero, suc, ◌+◌, ◌<◌, ◌≤◌, arith, Bool, true, false, drop, List, [], ◌∷◌, length, get_or, refl, sym, ap, ◌∙◌, subst, Vec, Global, add-one, drop-cons}
 use Rattle.std.specs.Prelude.{nat_lt, if◌then◌else◌, map}
 use Rattle.qc_config.specs.Config.{Voting}
+use Rattle.qc_config.specs.Val.{Datum}
 use Rattle.qc_event.specs.declared.event.Answer.TheVariants as answer
 use Rattle.qc_event.specs.declared.event.Kind.TheVariants as kind
 use Rattle.qc_event.specs.Base.{Setting}
@@ -34,7 +35,7 @@ must_of b = ap (λ (n : Numbered). n.must) (numbered_is b)
 pub put_read : (rec : ℕ) → put (step.Read rec) ≡ manage_then (kind.Read rec)
 put_read rec = ap put (sym (step.rolls-Read rec)) ∙ fold-roll-Step (Plan → Plan) Numbered before layer (Step-F.Read rec)
 
-pub put_set : (rec value : ℕ) → put (step.Set rec value) ≡ manage_then (kind.Write rec value)
+pub put_set : (rec : ℕ) (value : Datum) → put (step.Set rec value) ≡ manage_then (kind.Write rec value)
 put_set rec value = ap put (sym (step.rolls-Set rec value)) ∙ fold-roll-Step (Plan → Plan) Numbered before layer (Step-F.Set rec value)
 
 pub put_add : (rec value : ℕ) → put (step.Add rec value) ≡ change_then rec (λ old. plus old value)

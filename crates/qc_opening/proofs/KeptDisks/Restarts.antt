@@ -3,7 +3,7 @@
 use Rattle.std.proofs.Common.{◌≡◌, ℕ, zero, suc, ◌+◌, ◌<◌, inl, inr, ◌⊎◌, List, [], ◌++◌, length, get_or, refl, sym, ap, ap₂, ◌∙◌, subst, arith, append-nil}
 use Rattle.std.specs.Prelude.{map, Option, None, Some, IfSome, IsSome}
 use Rattle.std.proofs.lemmas.Bool.{cases_lt}
-use Rattle.std.proofs.lemmas.List.{get_or_past, get_or-replicate, length-map, length-replicate}
+use Rattle.std.proofs.lemmas.List.{get_or-replicate, length-map, length-replicate}
 use Rattle.std.proofs.lemmas.List.FromFn.{get_or-map-range_with_len}
 use Rattle.qc_config.specs.declared.tuple.Tuple.{Tuple}
 use Rattle.qc_event.specs.declared.event.Grant.{Grant}
@@ -26,6 +26,7 @@ use Rattle.qc_refine.specs.Folded.{begins}
 use Rattle.qc_refine.specs.Restored.{granted_at, restored}
 use Rattle.qc_refine.proofs.Restoring.Actives.{ActivesRestore, first_told, kept_told}
 use Rattle.qc_refine.proofs.Restoring.ImageReadings.{copy_tells, copy_told}
+use Rattle.qc_refine.proofs.Restoring.PairImages.{HasSome, none_past}
 use Rattle.qc_refine.proofs.Restoring.RestoredBases.{nothing_restored}
 use Rattle.qc_site.specs.Image.{AreMountableAsCopy, to_write}
 use Rattle.qc_opening.specs.Mountings.{HaveNoGrantsOn, MountedOn}
@@ -44,11 +45,11 @@ written_begin table disk found = ap (tuples_of_base table) (same_base disk table
 module _ (disk : ℕ → ℕ) (table : Table) (images : List (List ℕ)) (records : ℕ → List (List ℕ)) (epoch : ℕ) (base : List (List Tuple))
     (m : MountedOn disk table (λ number. Some (get_or images number [])) records epoch base) (as_many : length images ≡ table.copies + 1) where
   -- each image has records
-  read : (number : ℕ) → (bodies : List (List ℕ)) × HasRecords bodies (get_or images number [])
+  read : (number : ℕ) → HasSome images number
   read zero = (m.ledger.found, m.ledger.fine.0)
   read (suc copy) = elim (cases_lt copy table.copies) [
-    | inl there ↦ subst (λ n. (bodies : List (List ℕ)) × HasRecords bodies (get_or images n [])) (omega arith) ((m.copies copy there).found, (m.copies copy there).fine.0)
-    | inr past_all ↦ ([], inl (refl, omega (arith, ap length (get_or_past images (suc copy) [] (omega (arith, as_many, past_all))))))
+    | inl there ↦ subst (HasSome images) (omega arith) ((m.copies copy there).found, (m.copies copy there).fine.0)
+    | inr past_all ↦ none_past images (suc copy) (omega (arith, as_many, past_all))
   ]
 
   abbrev bodies : ℕ → List (List ℕ)

@@ -144,8 +144,3 @@ module _ {D : Type 0} {g : Ghosts D} where
       ap (λ (l : List (D × D)). map copy_disks rest ++ l) back
       ∙ (sym (append_assoc (map copy_disks rest) (copy_disks m ∷ []) waiting)
       ∙ (ap (λ (l : List (D × D)). l ++ waiting) (sym (map-append copy_disks rest (m ∷ []))) ∙ ap (λ (l : List (CopyPair D g)). map copy_disks l ++ waiting) (sym is)))
-
--- a list without items
-pub nil_of : {A : Type 0} (items : List A) → length items ≡ 0 → items ≡ []
-nil_of [] none = refl
-nil_of (item ∷ items) none = absurd (omega (arith, none))

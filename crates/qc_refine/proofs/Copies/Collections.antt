@@ -5,6 +5,7 @@ use Rattle.std.specs.Prelude.{slice_get, nat_lt, None, Some}
 use Rattle.std.proofs.lemmas.Bool.{cases_lt, ltb-true, eqb-true}
 use Rattle.std.proofs.lemmas.Option.{slice_get_within}
 use Rattle.qc_config.specs.Config.{Voting, IsLegal, holds_write}
+use Rattle.qc_config.specs.Val.{Datum}
 use Rattle.qc_config.specs.declared.tuple.Tuple.{Tuple}
 use Rattle.qc_event.specs.Base.{no_tuple}
 use Rattle.qc_event.specs.History.{Given}
@@ -18,7 +19,7 @@ use Rattle.qc_refine.proofs.Copies.Fits.{carried_fit}
 use Rattle.qc_refine.proofs.Copies.Configs.{last_at, config_at, legal_at}
 
 -- what a collection has seen of copies that carry a value
-pub record Seen (first : Voting) (tuples : List Tuple) (value : ℕ) (gets : List Given) (carried : Carries first tuples value) : Type 0 where
+pub record Seen (first : Voting) (tuples : List Tuple) (value : Datum) (gets : List Given) (carried : Carries first tuples value) : Type 0 where
   pub place : (newest_of first gets).generation + 1 ≡ length carried.configs
   pub newest : (newest_of first gets).config ≡ carried.newest
   pub at : slice_get carried.configs (newest_of first gets).generation ≡ Some (newest_of first gets).config
@@ -39,14 +40,14 @@ some_given : (gets : List Given) (c : ℕ) → has_given gets c ≡ true → 0 <
 some_given [] c h = absurd (true≢false (sym h))
 some_given (g ∷ gets) c h = omega arith
 
-newest_listed : (first : Voting) (tuples : List Tuple) (value : ℕ) (gets : List Given) → (carried : Carries first tuples value) → Collected first gets → Within (length tuples) gets → FindsThere tuples gets → slice_get carried.configs (newest_of first gets).generation ≡ Some (newest_of first gets).config
+newest_listed : (first : Voting) (tuples : List Tuple) (value : Datum) (gets : List Given) → (carried : Carries first tuples value) → Collected first gets → Within (length tuples) gets → FindsThere tuples gets → slice_get carried.configs (newest_of first gets).generation ≡ Some (newest_of first gets).config
 newest_listed first tuples value gets carried collected within finds =
     newest_among (λ best. slice_get carried.configs best.generation ≡ Some best.config) (record { generation = 0; config = first }) (replies gets)
     carried.begins
     (replies_are (ListedIn carried.configs) tuples gets collected.reads within finds carried.each_listed)
 
 -- the newest was not passed on: a copy that replied would have a greater generation
-not_passed : (first : Voting) (tuples : List Tuple) (value : ℕ) (gets : List Given) → (carried : Carries first tuples value) → Collected first gets → Within (length tuples) gets → FindsThere tuples gets → (newest_of first gets).generation + 1 < length carried.configs → ⊥
+not_passed : (first : Voting) (tuples : List Tuple) (value : Datum) (gets : List Given) → (carried : Carries first tuples value) → Collected first gets → Within (length tuples) gets → FindsThere tuples gets → (newest_of first gets).generation + 1 < length carried.configs → ⊥
 not_passed first tuples value gets carried collected within finds earlier =
     let best = newest_of first gets in
     let at = newest_listed first tuples value gets carried collected within finds in
@@ -59,11 +60,11 @@ not_passed first tuples value gets carried collected within finds earlier =
     omega (arith, above, below)
 
 -- the value and the greatest version, where the configuration is the newest
-record Found (tuples : List Tuple) (value : ℕ) (gets : List Given) : Type 0 where
+record Found (tuples : List Tuple) (value : Datum) (gets : List Given) : Type 0 where
   version : (greatest_of gets).version ≡ greatest_version tuples
   value_is : (greatest_of gets).value ≡ value
 
-found : (first : Voting) (tuples : List Tuple) (value : ℕ) (gets : List Given) → (carried : Carries first tuples value) → Collected first gets → Within (length tuples) gets → FindsThere tuples gets → IsLegal (newest_of first gets).config → (newest_of first gets).config ≡ carried.newest → Found tuples value gets
+found : (first : Voting) (tuples : List Tuple) (value : Datum) (gets : List Given) → (carried : Carries first tuples value) → Collected first gets → Within (length tuples) gets → FindsThere tuples gets → IsLegal (newest_of first gets).config → (newest_of first gets).config ≡ carried.newest → Found tuples value gets
 found first tuples value gets carried collected within finds legal newest = record { version = version; value_is = best.1 version }
   where
     now : Voting
@@ -97,7 +98,7 @@ found first tuples value gets carried collected within finds legal newest = reco
         let high = best.0 in
         omega (arith, low, here, high)
 
-pub sees : (first : Voting) (tuples : List Tuple) (value : ℕ) (gets : List Given) → (carried : Carries first tuples value) → Collected first gets → Within (length tuples) gets → FindsThere tuples gets → Seen first tuples value gets carried
+pub sees : (first : Voting) (tuples : List Tuple) (value : Datum) (gets : List Given) → (carried : Carries first tuples value) → Collected first gets → Within (length tuples) gets → FindsThere tuples gets → Seen first tuples value gets carried
 sees first tuples value gets carried collected within finds = record {
   place = place;
   newest = newest;

@@ -6,6 +6,7 @@ use Rattle.std.proofs.lemmas.List.{length-set}
 use Rattle.std.proofs.lemmas.List.Elements.{All-nil, All-cons, All-head, All-tail, All-get_or, All-from_get_or, All-set}
 use Rattle.qc_config.specs.Config.{Voting}
 use Rattle.qc_config.specs.Tuple.{after}
+use Rattle.qc_config.specs.Val.{Datum}
 use Rattle.qc_config.specs.declared.tuple.Op.{Op}
 use Rattle.qc_config.specs.declared.tuple.Op.TheVariants.{Get, PutData, PutConfig}
 use Rattle.qc_config.specs.declared.tuple.Tuple.{Tuple}
@@ -18,30 +19,30 @@ use Rattle.qc_refine.proofs.Copies.Folds.{version_bounds}
 use Rattle.qc_refine.proofs.Copies.Grants.{Below}
 
 -- A tuple is not above a version, and has the value where it is at it.
-abbrev pub Fits : ℕ → ℕ → Tuple → Type 0
+abbrev pub Fits : ℕ → Datum → Tuple → Type 0
 Fits version value t = (t.version ≤ version) × HasValue version value t
 
 -- tuples that carry a value fit
-pub carried_fit : (first : Voting) (tuples : List Tuple) (value : ℕ) → Carries first tuples value → All (Fits (greatest_version tuples) value) tuples
+pub carried_fit : (first : Voting) (tuples : List Tuple) (value : Datum) → Carries first tuples value → All (Fits (greatest_version tuples) value) tuples
 carried_fit first tuples value carried =
     All-from_get_or (Fits (greatest_version tuples) value) tuples no_tuple
     (λ c lt. (version_bounds tuples c lt, All-get_or (HasValue (greatest_version tuples) value) tuples c no_tuple lt carried.values))
 
 -- After an operation a tuple fits that did before, and it is still at the version.
-pub record Suits (version value : ℕ) (op : Op) : Type 0 where
+pub record Suits (version : ℕ) (value : Datum) (op : Op) : Type 0 where
   pub fits : (t : Tuple) → Fits version value t → Fits version value (after t op)
   pub stays : (t : Tuple) → t.version ≡ version → (after t op).version ≡ version
 
-pub get_suits : (version value : ℕ) → Suits version value Get
+pub get_suits : (version : ℕ) (value : Datum) → Suits version value Get
 get_suits version value = record { fits = λ t fit. fit; stays = λ t at. at }
 
-pub put_suits : (version value : ℕ) → Suits version value (PutData version value)
+pub put_suits : (version : ℕ) (value : Datum) → Suits version value (PutData version value)
 put_suits version value = record { fits = λ t fit. (omega arith, λ at. refl); stays = λ t at. refl }
 
-pub move_suits : (version value generation : ℕ) (config : Voting) → Suits version value (PutConfig generation config)
+pub move_suits : (version : ℕ) (value : Datum) (generation : ℕ) (config : Voting) → Suits version value (PutConfig generation config)
 move_suits version value generation config = record { fits = λ t fit. fit; stays = λ t at. at }
 
-abbrev pub AllSuit : ℕ → ℕ → List Given → Type 0
+abbrev pub AllSuit : ℕ → Datum → List Given → Type 0
 AllSuit version value gs = All (λ (g : Given). Suits version value g.grant.op) gs
 
 -- the copies are as many after a grant
@@ -71,7 +72,7 @@ left_are P tuples (g ∷ gs) within finds puts all =
     by_op (PutData version value) is = put (ap is_get is)
     by_op (PutConfig generation config) is = put (ap is_get is)
 
-module _ (version value : ℕ) where
+module _ (version : ℕ) (value : Datum) where
   abbrev SuitsOne : Given → Type 0
   SuitsOne g = Suits version value g.grant.op
 

@@ -4,6 +4,7 @@ use Rattle.std.specs.Prelude.{All}
 use Rattle.std.proofs.lemmas.Bool.{eqb-true}
 use Rattle.std.proofs.lemmas.List.Elements.{All-append, All-get_or, All-weaker}
 use Rattle.qc_config.specs.Config.{Voting}
+use Rattle.qc_config.specs.Val.{Datum}
 use Rattle.qc_config.specs.declared.tuple.Op.{Op}
 use Rattle.qc_config.specs.declared.tuple.Op.TheVariants.{Get, PutData}
 use Rattle.qc_config.specs.declared.tuple.Tuple.{Tuple}
@@ -25,7 +26,7 @@ pub record Top (tuples : List Tuple) : Type 0 where
   pub within : copy < length tuples
   pub is : (tuple_at tuples copy).version ≡ greatest_version tuples
 
-pub top_copy : (first : Voting) (tuples : List Tuple) (value : ℕ) → Carries first tuples value → Top tuples
+pub top_copy : (first : Voting) (tuples : List Tuple) (value : Datum) → Carries first tuples value → Top tuples
 top_copy first tuples value carried =
     let has_top = λ (t : Tuple). t.version == greatest_version tuples in
     let one = writer_holds carried.newest (map has_top tuples) (legal_last carried.configs carried.newest carried.legal carried.ends) carried.version_held in
@@ -33,12 +34,12 @@ top_copy first tuples value carried =
     record { copy = one.copy; within = was.within; is = eqb-true (tuple_at tuples one.copy).version (greatest_version tuples) was.passes }
 
 -- What fits the copies before grants fits them after, and so does each tuple that was granted.
-pub record Grown (tuples : List Tuple) (gs : List Given) (value new : ℕ) : Type 0 where
+pub record Grown (tuples : List Tuple) (gs : List Given) (value new : Datum) : Type 0 where
   pub older : (t : Tuple) → Fits (greatest_version tuples) value t → Fits (greatest_version (after_all tuples gs)) new t
   pub given : All (λ (g : Given). Fits (greatest_version (after_all tuples gs)) new g.grant.tuple) gs
 
 -- it does where each operation suits a version that a copy then has
-grown_to : (tuples : List Tuple) (gs : List Given) (value new n c : ℕ) → Within (length tuples) gs → FindsThere tuples gs → All (Fits (greatest_version tuples) value) tuples → ((t : Tuple) → Fits (greatest_version tuples) value t → Fits n new t) → AllSuit n new gs → c < length (after_all tuples gs) → (tuple_at (after_all tuples gs) c).version ≡ n → Grown tuples gs value new
+grown_to : (tuples : List Tuple) (gs : List Given) (value new : Datum) (n c : ℕ) → Within (length tuples) gs → FindsThere tuples gs → All (Fits (greatest_version tuples) value) tuples → ((t : Tuple) → Fits (greatest_version tuples) value t → Fits n new t) → AllSuit n new gs → c < length (after_all tuples gs) → (tuple_at (after_all tuples gs) c).version ≡ n → Grown tuples gs value new
 grown_to tuples gs value new n c within finds all older suits there at = record {
   older = λ t fit. subst (λ v. Fits v new t) (sym greatest_is) (older t fit);
   given = subst (λ v. All (λ (g : Given). Fits v new g.grant.tuple) gs) (sym greatest_is) (given_fit n new tuples gs within finds suits before);
@@ -54,14 +55,14 @@ grown_to tuples gs value new n c within finds all older suits there at = record 
         there at
 
 -- grants of one operation that suits
-each_suits : (version value : ℕ) (op : Op) (gs : List Given) → Suits version value op → Each op gs → AllSuit version value gs
+each_suits : (version : ℕ) (value : Datum) (op : Op) (gs : List Given) → Suits version value op → Each op gs → AllSuit version value gs
 each_suits version value op gs suits each =
     All-weaker (λ (g : Given). g.grant.op ≡ op) (λ (g : Given). Suits version value g.grant.op) (λ g is. subst (Suits version value) (sym is) suits) gs each
 
-abbrev SuitsOne : ℕ → ℕ → Given → Type 0
+abbrev SuitsOne : ℕ → Datum → Given → Type 0
 SuitsOne version value g = Suits version value g.grant.op
 
-module _ (first : Voting) (tuples : List Tuple) (value : ℕ) (gs : List Given) (carried : Carries first tuples value) (within : Within (length tuples) gs) (finds : FindsThere tuples gs) where
+module _ (first : Voting) (tuples : List Tuple) (value : Datum) (gs : List Given) (carried : Carries first tuples value) (within : Within (length tuples) gs) (finds : FindsThere tuples gs) where
   abbrev top : ℕ
   top = greatest_version tuples
 
@@ -73,7 +74,7 @@ module _ (first : Voting) (tuples : List Tuple) (value : ℕ) (gs : List Given) 
       (let lt = one.within in omega (arith, lt, same))
       (copy_stays top value tuples gs one.copy one.within suits one.is)
 
-  pub read_grown : (answer : ℕ) → ReadDone first answer gs → length (after_all tuples gs) ≡ length tuples → Grown tuples gs value value
+  pub read_grown : (answer : Datum) → ReadDone first answer gs → length (after_all tuples gs) ≡ length tuples → Grown tuples gs value value
   read_grown answer done same = level (each_suits top value Get gs (get_suits top value) done.collected.reads) same
 
   pub move_grown : (config : Voting) (answer : ℕ) → MoveDone first config answer gs → length (after_all tuples gs) ≡ length tuples → Grown tuples gs value value
@@ -91,7 +92,7 @@ module _ (first : Voting) (tuples : List Tuple) (value : ℕ) (gs : List Given) 
       put_is : PutData (greatest_of done.gets).version (greatest_of done.gets).value ≡ PutData top value
       put_is = ap (λ n. PutData n (greatest_of done.gets).value) seen.version ∙ ap (λ v. PutData top v) seen.value_is
 
-  pub write_grown : (new : ℕ) → WriteDone first new gs → length (after_all tuples gs) ≡ length tuples → Grown tuples gs value new
+  pub write_grown : (new : Datum) → WriteDone first new gs → length (after_all tuples gs) ≡ length tuples → Grown tuples gs value new
   write_grown new done same =
       grown_to tuples gs value new now one.copy within finds (carried_fit first tuples value carried) older
       (subst (AllSuit now new) (sym done.parts) (

@@ -3,6 +3,7 @@ use Rattle.std.proofs.Common.{◌≡◌, ◌≢◌, ℕ, zero, suc, ◌<◌, Lis
 use Rattle.std.specs.Prelude.{All, Option, None, Some, MatchOption, slice_get}
 use Rattle.std.proofs.lemmas.Bool.{cases_eq}
 use Rattle.std.proofs.lemmas.List.Elements.{All-head, All-tail}
+use Rattle.qc_config.specs.Val.{Datum}
 use Rattle.qc_event.specs.Base.{Setting, first_of}
 use Rattle.qc_event.specs.History.{Given}
 use Rattle.qc_event.specs.Manager.{record_of}
@@ -18,12 +19,12 @@ use Rattle.qc_refine.proofs.Copies.Columns.{left_column, column_start, column_le
 use Rattle.qc_refine.proofs.Copies.Writes.{read_answers, read_leaves, write_carries}
 use Rattle.qc_refine.proofs.Copies.Moves.{move_carries}
 
-pub set_here : (values : List ℕ) (rec old value : ℕ) → slice_get values rec ≡ Some old → slice_get (set values rec value) rec ≡ Some value
+pub set_here : (values : List Datum) (rec : ℕ) (old value : Datum) → slice_get values rec ≡ Some old → slice_get (set values rec value) rec ≡ Some value
 set_here [] rec old value at = absurd (cc)
 set_here (v ∷ values) zero old value at = refl
 set_here (v ∷ values) (suc rec) old value at = set_here values rec old value at
 
-pub set_elsewhere : (values : List ℕ) (rec other value : ℕ) → other ≢ rec → slice_get (set values rec value) other ≡ slice_get values other
+pub set_elsewhere : (values : List Datum) (rec other : ℕ) (value : Datum) → other ≢ rec → slice_get (set values rec value) other ≡ slice_get values other
 set_elsewhere [] rec other value apart = refl
 set_elsewhere (v ∷ values) zero zero value apart = absurd (apart refl)
 set_elsewhere (v ∷ values) zero (suc other) value apart = refl
@@ -31,27 +32,27 @@ set_elsewhere (v ∷ values) (suc rec) zero value apart = refl
 set_elsewhere (v ∷ values) (suc rec) (suc other) value apart = set_elsewhere values rec other value (λ e. apart (ap suc e))
 
 -- the tuples of a record that earlier grants leave carry its value
-abbrev pub CarriedAt : Setting → List Given → List ℕ → ℕ → Type 0
+abbrev pub CarriedAt : Setting → List Given → List Datum → ℕ → Type 0
 CarriedAt setting given values rec = MatchOption (slice_get values rec) ⊥ (Carries (first_of setting rec) (left_column setting.base given rec))
 
-abbrev pub Carried : Setting → List Given → List ℕ → Type 0
+abbrev pub Carried : Setting → List Given → List Datum → Type 0
 Carried setting given values = (rec : ℕ) → rec < length setting.firsts → CarriedAt setting given values rec
 
 -- a record's value, with the tuples that carry it
-record Valued (at : Option ℕ) (P : ℕ → Type 0) : Type 0 where
-  value : ℕ
+record Valued (at : Option Datum) (P : Datum → Type 0) : Type 0 where
+  value : Datum
   is : at ≡ Some value
   carried : P value
 
-valued : (at : Option ℕ) (P : ℕ → Type 0) → MatchOption at ⊥ P → Valued at P
+valued : (at : Option Datum) (P : Datum → Type 0) → MatchOption at ⊥ P → Valued at P
 valued None P h = absurd h
 valued (Some value) P h = record { value = value; is = refl; carried = h }
 
-carried_from : (setting : Setting) (given : List Given) (values : List ℕ) (rec value : ℕ) → slice_get values rec ≡ Some value → Carries (first_of setting rec) (left_column setting.base given rec) value → CarriedAt setting given values rec
+carried_from : (setting : Setting) (given : List Given) (values : List Datum) (rec : ℕ) (value : Datum) → slice_get values rec ≡ Some value → Carries (first_of setting rec) (left_column setting.base given rec) value → CarriedAt setting given values rec
 carried_from setting given values rec value is carried = subst (λ at. MatchOption at ⊥ (Carries (first_of setting rec) (left_column setting.base given rec))) (sym is) carried
 
 -- what a manager of one record does to all
-each_record : (setting : Setting) (given gs : List Given) (values later : List ℕ) (rec : ℕ) → All (IsAt setting rec) gs → Carried setting given values → CarriedAt setting (given ++ gs) later rec → ((other : ℕ) → other ≢ rec → slice_get later other ≡ slice_get values other) → Carried setting (given ++ gs) later
+each_record : (setting : Setting) (given gs : List Given) (values later : List Datum) (rec : ℕ) → All (IsAt setting rec) gs → Carried setting given values → CarriedAt setting (given ++ gs) later rec → ((other : ℕ) → other ≢ rec → slice_get later other ≡ slice_get values other) → Carried setting (given ++ gs) later
 each_record setting given gs values later rec at before here same other there = elim (cases_eq other rec) [
   | inl is ↦ subst (λ r. CarriedAt setting (given ++ gs) later r) (sym is) here
   | inr apart ↦
@@ -60,11 +61,11 @@ each_record setting given gs values later rec at before here same other there = 
 ]
 
 -- what one manager finds and leaves
-pub record Step (setting : Setting) (given gs : List Given) (values : List ℕ) (k : Kind) (a : Answer) : Type 0 where
+pub record Step (setting : Setting) (given gs : List Given) (values : List Datum) (k : Kind) (a : Answer) : Type 0 where
   pub answers : AnswersValue values k a
   pub carried : Carried setting (given ++ gs) (values_by values k)
 
-pub step : (setting : Setting) (given gs : List Given) (values : List ℕ) (k : Kind) (a : Answer) → record_of k < length setting.firsts → All (IsAt setting (record_of k)) gs → Complete (first_of setting (record_of k)) k a gs → FindsThere (left_column setting.base given (record_of k)) gs → Carried setting given values → Step setting given gs values k a
+pub step : (setting : Setting) (given gs : List Given) (values : List Datum) (k : Kind) (a : Answer) → record_of k < length setting.firsts → All (IsAt setting (record_of k)) gs → Complete (first_of setting (record_of k)) k a gs → FindsThere (left_column setting.base given (record_of k)) gs → Carried setting given values → Step setting given gs values k a
 step setting given gs values (kind.Read rec) (answer.Value value) there at done finds before =
     let now = valued (slice_get values rec) (Carries (first_of setting rec) (left_column setting.base given rec)) (before rec there) in
     let first = first_of setting rec in
@@ -96,11 +97,11 @@ step setting given gs values (kind.Reconf rec config) (answer.Generation generat
 step setting given gs values k a there at done finds before = absurd done
 
 -- what managers in turn find and leave
-record InTurn (setting : Setting) (whole : List Given) (values : List ℕ) (dones : List Done) : Type 0 where
+record InTurn (setting : Setting) (whole : List Given) (values : List Datum) (dones : List Done) : Type 0 where
   answers : AnswerValues values dones
   carried : Carried setting whole (values_after values dones)
 
-in_turn : (setting : Setting) (whole given : List Given) (values : List ℕ) (dones : List Done) → Finds setting.base whole → whole ≡ given ++ given_to dones → All (IsDone setting) dones → Carried setting given values → InTurn setting whole values dones
+in_turn : (setting : Setting) (whole given : List Given) (values : List Datum) (dones : List Done) → Finds setting.base whole → whole ≡ given ++ given_to dones → All (IsDone setting) dones → Carried setting given values → InTurn setting whole values dones
 in_turn setting whole given values [] finds parts all before = record { answers = tt; carried = subst (λ gs. Carried setting gs values) (sym (append-nil given) ∙ sym parts) before }
 in_turn setting whole given values (d ∷ dones) finds parts all before =
     let done = All-head (IsDone setting) d dones all in
@@ -110,13 +111,13 @@ in_turn setting whole given values (d ∷ dones) finds parts all before =
     let rest = in_turn setting whole (given ++ d.given) (values_by values d.kind) dones finds (parts ∙ sym (append_assoc given d.given (given_to dones))) (All-tail (IsDone setting) d dones all) one.carried in
     record { answers = (one.answers, rest.answers); carried = rest.carried }
 
-pub started : (setting : Setting) (values : List ℕ) → IsSound setting values → Carried setting [] values
+pub started : (setting : Setting) (values : List Datum) → IsSound setting values → Carried setting [] values
 started setting values sound rec there = subst (λ tuples. MatchOption (slice_get values rec) ⊥ (Carries (first_of setting rec) tuples)) (column_start setting.base rec) (sound rec there)
 
-pub reads_answer : (setting : Setting) (values : List ℕ) (dones : List Done) → IsSound setting values → All (IsDone setting) dones → Finds setting.base (given_to dones) → AnswerValues values dones
+pub reads_answer : (setting : Setting) (values : List Datum) (dones : List Done) → IsSound setting values → All (IsDone setting) dones → Finds setting.base (given_to dones) → AnswerValues values dones
 reads_answer setting values dones sound all finds = (in_turn setting (given_to dones) [] values dones finds refl all (started setting values sound)).answers
 
-pub left_sound : (setting : Setting) (values : List ℕ) (dones : List Done) → IsSound setting values → All (IsDone setting) dones → Finds setting.base (given_to dones) → IsSound (left_setting setting (given_to dones)) (values_after values dones)
+pub left_sound : (setting : Setting) (values : List Datum) (dones : List Done) → IsSound setting values → All (IsDone setting) dones → Finds setting.base (given_to dones) → IsSound (left_setting setting (given_to dones)) (values_after values dones)
 left_sound setting values dones sound all finds rec there =
     subst (λ tuples. MatchOption (slice_get (values_after values dones) rec) ⊥ (Carries (first_of setting rec) tuples)) (sym (column_left setting (given_to dones) rec there))
     ((in_turn setting (given_to dones) [] values dones finds refl all (started setting values sound)).carried rec there)

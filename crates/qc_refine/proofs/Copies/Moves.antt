@@ -7,6 +7,7 @@ use Rattle.std.proofs.lemmas.List.Elements.{All-get_or, All-from_get_or, All-pus
 use Rattle.std.proofs.lemmas.List.Sums.{fold-append}
 use Rattle.qc_config.specs.Config.{Voting, IsLegal, holds_write, no_config}
 use Rattle.qc_config.specs.Copies as copies
+use Rattle.qc_config.specs.Val.{Datum}
 use Rattle.qc_config.specs.declared.tuple.Op.{Op}
 use Rattle.qc_config.specs.declared.tuple.Op.TheVariants.{PutData, PutConfig}
 use Rattle.qc_config.specs.declared.tuple.Tuple.{Tuple}
@@ -25,7 +26,7 @@ use Rattle.qc_refine.proofs.Copies.Writes.{still_passed, put_holds, put_greatest
 -- PUTS OF THE VALUE
 
 -- what puts of the newest version and its value leave
-record Copied (config : Voting) (tuples middle : List Tuple) (value : ℕ) : Type 0 where
+record Copied (config : Voting) (tuples middle : List Tuple) (value : Datum) : Type 0 where
   same_length : length middle ≡ length tuples
   greatest_is : greatest_version middle ≡ greatest_version tuples
   held : holds_write config (map (λ (t : Tuple). t.version == greatest_version middle) middle) ≡ true
@@ -33,7 +34,7 @@ record Copied (config : Voting) (tuples middle : List Tuple) (value : ℕ) : Typ
   generation : (c : ℕ) → c < length tuples → (tuple_at middle c).generation ≡ (tuple_at tuples c).generation
   listed : (configs : List Voting) (c : ℕ) → c < length tuples → slice_get configs (tuple_at tuples c).generation ≡ Some (tuple_at tuples c).config → slice_get configs (tuple_at middle c).generation ≡ Some (tuple_at middle c).config
 
-copied : (first config : Voting) (tuples middle : List Tuple) (value : ℕ) (gets puts : List Given) → (carried : Carries first tuples value) → Seen first tuples value gets carried → IsLegal config → Within (length tuples) puts → Stored config (PutData (greatest_of gets).version (greatest_of gets).value) puts → Changed (PutData (greatest_of gets).version (greatest_of gets).value) puts tuples middle → Copied config tuples middle value
+copied : (first config : Voting) (tuples middle : List Tuple) (value : Datum) (gets puts : List Given) → (carried : Carries first tuples value) → Seen first tuples value gets carried → IsLegal config → Within (length tuples) puts → Stored config (PutData (greatest_of gets).version (greatest_of gets).value) puts → Changed (PutData (greatest_of gets).version (greatest_of gets).value) puts tuples middle → Copied config tuples middle value
 copied first config tuples middle value gets puts carried seen legal within stored changed = record {
   same_length = changed.same_length;
   greatest_is = greatest_is ∙ seen.version;
@@ -79,11 +80,11 @@ copied first config tuples middle value gets puts carried seen legal within stor
 -- PUTS OF THE CONFIGURATION
 
 -- what these keep of the versions and values
-record Kept (config : Voting) (value : ℕ) (later : List Tuple) : Type 0 where
+record Kept (config : Voting) (value : Datum) (later : List Tuple) : Type 0 where
   held : holds_write config (map (λ (t : Tuple). t.version == greatest_version later) later) ≡ true
   values : All (HasValue (greatest_version later) value) later
 
-kept : (config : Voting) (value : ℕ) (middle later : List Tuple) → IsLegal config → length later ≡ length middle → ((c : ℕ) → c < length middle → (tuple_at later c).version ≡ (tuple_at middle c).version) → ((c : ℕ) → c < length middle → (tuple_at later c).value ≡ (tuple_at middle c).value) → holds_write config (map (λ (t : Tuple). t.version == greatest_version middle) middle) ≡ true → All (HasValue (greatest_version middle) value) middle → Kept config value later
+kept : (config : Voting) (value : Datum) (middle later : List Tuple) → IsLegal config → length later ≡ length middle → ((c : ℕ) → c < length middle → (tuple_at later c).version ≡ (tuple_at middle c).version) → ((c : ℕ) → c < length middle → (tuple_at later c).value ≡ (tuple_at middle c).value) → holds_write config (map (λ (t : Tuple). t.version == greatest_version middle) middle) ≡ true → All (HasValue (greatest_version middle) value) middle → Kept config value later
 kept config value middle later legal same versions values held has = record {
   held = subst (λ n. holds_write config (map (λ (t : Tuple). t.version == n) later) ≡ true) (sym greatest_is) (more_writes config (map has_top middle) (map has_top later) held stay);
   values = All-from_get_or (HasValue (greatest_version later) value) later no_tuple (λ c lt is. told c (omega (arith, lt, same)) (is ∙ greatest_is));
@@ -115,7 +116,7 @@ kept config value middle later legal same versions values held has = record {
     told c lt is = values c lt ∙ All-get_or (HasValue top value) middle c no_tuple lt has (sym (versions c lt) ∙ is)
 
 -- puts of a configuration with the next generation at a write quorum of the newest one
-move_on : (first config : Voting) (tuples middle later : List Tuple) (value : ℕ) (gets moves : List Given) → (carried : Carries first tuples value) → Seen first tuples value gets carried → IsLegal config → Copied config tuples middle value → Within (length tuples) moves → Stored (newest_of first gets).config (PutConfig ((newest_of first gets).generation + 1) config) moves → Changed (PutConfig ((newest_of first gets).generation + 1) config) moves middle later → CarriesMore config later carried
+move_on : (first config : Voting) (tuples middle later : List Tuple) (value : Datum) (gets moves : List Given) → (carried : Carries first tuples value) → Seen first tuples value gets carried → IsLegal config → Copied config tuples middle value → Within (length tuples) moves → Stored (newest_of first gets).config (PutConfig ((newest_of first gets).generation + 1) config) moves → Changed (PutConfig ((newest_of first gets).generation + 1) config) moves middle later → CarriesMore config later carried
 move_on first config tuples middle later value gets moves carried seen legal copy within stored changed = (
   record {
     configs = configs;
@@ -207,7 +208,7 @@ move_on first config tuples middle later value gets moves carried seen legal cop
           | inr last ↦ newest_passed g (let place = seen.place in omega (arith, last, inside, place))
         ])
 
-pub move_carries : (first config : Voting) (tuples : List Tuple) (value answer : ℕ) (gs : List Given) → (carried : Carries first tuples value) → Within (length tuples) gs → FindsThere tuples gs → MoveDone first config answer gs → CarriesMore config (after_all tuples gs) carried
+pub move_carries : (first config : Voting) (tuples : List Tuple) (value : Datum) (answer : ℕ) (gs : List Given) → (carried : Carries first tuples value) → Within (length tuples) gs → FindsThere tuples gs → MoveDone first config answer gs → CarriesMore config (after_all tuples gs) carried
 move_carries first config tuples value answer gs carried within finds done =
     subst (λ later. CarriesMore config later carried) (sym left)
     (move_on first config tuples middle (after_all middle done.moves) value done.gets done.moves carried seen done.legal copy

@@ -5,6 +5,7 @@ use Rattle.std.specs.List.{Contains}
 use Rattle.std.proofs.lemmas.Bool.{cases_eq}
 use Rattle.std.proofs.lemmas.List.Elements.{All-nil, All-head, All-tail, All-append, All-weaker, All-contains, All-contains_itself, Contains-append_left, Contains-append_right}
 use Rattle.qc_config.specs.Config.{Voting}
+use Rattle.qc_config.specs.Val.{Datum}
 use Rattle.qc_config.specs.declared.tuple.Tuple.{Tuple}
 use Rattle.qc_event.specs.Base.{Setting, first_of}
 use Rattle.qc_event.specs.History.{Given}
@@ -23,22 +24,22 @@ use Rattle.qc_refine.proofs.Copies.Grown.{Grown, read_grown, write_grown, move_g
 use Rattle.qc_refine.proofs.Copies.InTurn.{CarriedAt, Carried, set_here, set_elsewhere, step, started}
 
 -- a grant of the record fits
-abbrev pub FitsOf : ℕ → ℕ → ℕ → Given → Type 0
+abbrev pub FitsOf : ℕ → ℕ → Datum → Given → Type 0
 FitsOf rec version value g = g.grant.rec ≡ rec → Fits version value g.grant.tuple
 
 -- The start tuples of a record and those of its grants fit the copies that grants leave, and of each of these a
 -- property holds.
-pub record NoneAbove (setting : Setting) (rec : ℕ) (P : Tuple → Type 0) (given : List Given) (value : ℕ) : Type 0 where
+pub record NoneAbove (setting : Setting) (rec : ℕ) (P : Tuple → Type 0) (given : List Given) (value : Datum) : Type 0 where
   pub starts : All (Fits (greatest_version (left_column setting.base given rec)) value) (column setting.base rec)
   pub grants : All (FitsOf rec (greatest_version (left_column setting.base given rec)) value) given
   pub known : All P (left_column setting.base given rec)
 
-abbrev pub NoneAboveAt : Setting → ℕ → (Tuple → Type 0) → List Given → Option ℕ → Type 0
+abbrev pub NoneAboveAt : Setting → ℕ → (Tuple → Type 0) → List Given → Option Datum → Type 0
 NoneAboveAt setting rec P given at = MatchOption at ⊥ (NoneAbove setting rec P given)
 
 module _ (setting : Setting) (rec : ℕ) (P : Tuple → Type 0) where
   -- grants of another record
-  apart : (given gs : List Given) (other value : ℕ) → rec ≢ other → All (IsAt setting other) gs → NoneAbove setting rec P given value → NoneAbove setting rec P (given ++ gs) value
+  apart : (given gs : List Given) (other : ℕ) (value : Datum) → rec ≢ other → All (IsAt setting other) gs → NoneAbove setting rec P given value → NoneAbove setting rec P (given ++ gs) value
   apart given gs other value differ at was = record {
     starts = subst (λ ts. All (Fits (greatest_version ts) value) (column setting.base rec)) same was.starts;
     grants = All-append (FitsOf rec now value) given gs
@@ -54,7 +55,7 @@ module _ (setting : Setting) (rec : ℕ) (P : Tuple → Type 0) where
       now = greatest_version (left_column setting.base (given ++ gs) rec)
 
   -- grants of a manager of the record
-  more : (given gs : List Given) (value new : ℕ) → All (IsAt setting rec) gs → FindsThere (left_column setting.base given rec) gs → All (PutIs P) gs → Grown (left_column setting.base given rec) gs value new → NoneAbove setting rec P given value → NoneAbove setting rec P (given ++ gs) new
+  more : (given gs : List Given) (value new : Datum) → All (IsAt setting rec) gs → FindsThere (left_column setting.base given rec) gs → All (PutIs P) gs → Grown (left_column setting.base given rec) gs value new → NoneAbove setting rec P given value → NoneAbove setting rec P (given ++ gs) new
   more given gs value new at finds puts grown was = record {
     starts = subst (λ ts. All (Fits (greatest_version ts) new) (column setting.base rec)) left
         (All-weaker (Fits (greatest_version tuples) value) (Fits (greatest_version (after_all tuples gs)) new) grown.older (column setting.base rec) was.starts);
@@ -73,7 +74,7 @@ module _ (setting : Setting) (rec : ℕ) (P : Tuple → Type 0) where
       left = column_after setting given gs rec at
 
   -- one manager of the record more
-  by_kind : (given gs : List Given) (values : List ℕ) (k : Kind) (a : Answer) → record_of k ≡ rec → All (IsAt setting rec) gs → Complete (first_of setting rec) k a gs → FindsThere (left_column setting.base given rec) gs → All (PutIs P) gs
+  by_kind : (given gs : List Given) (values : List Datum) (k : Kind) (a : Answer) → record_of k ≡ rec → All (IsAt setting rec) gs → Complete (first_of setting rec) k a gs → FindsThere (left_column setting.base given rec) gs → All (PutIs P) gs
       → CarriedAt setting given values rec → NoneAboveAt setting rec P given (slice_get values rec) → NoneAboveAt setting rec P (given ++ gs) (slice_get (values_by values k) rec)
   by_kind given gs values k a of_record at done finds puts = by_value (slice_get values rec) refl
     where
@@ -89,7 +90,7 @@ module _ (setting : Setting) (rec : ℕ) (P : Tuple → Type 0) where
       same : length (after_all tuples gs) ≡ length tuples
       same = ap length (column_after setting given gs rec at) ∙ column_length setting.base (given ++ gs) rec ∙ sym (column_length setting.base given rec)
 
-      by_complete : (k : Kind) (a : Answer) (value : ℕ) → record_of k ≡ rec → Complete first k a gs → slice_get values rec ≡ Some value → Carries first tuples value → NoneAbove setting rec P given value → NoneAboveAt setting rec P (given ++ gs) (slice_get (values_by values k) rec)
+      by_complete : (k : Kind) (a : Answer) (value : Datum) → record_of k ≡ rec → Complete first k a gs → slice_get values rec ≡ Some value → Carries first tuples value → NoneAbove setting rec P given value → NoneAboveAt setting rec P (given ++ gs) (slice_get (values_by values k) rec)
       by_complete (kind.Read r) (answer.Value told) value of done is carried was =
           subst (NoneAboveAt setting rec P (given ++ gs)) (sym is) (more given gs value value at finds puts (read_grown first tuples value gs carried within finds told done same) was)
       by_complete (kind.Write r new) answer.Nothing value of done is carried was =
@@ -99,19 +100,19 @@ module _ (setting : Setting) (rec : ℕ) (P : Tuple → Type 0) where
           subst (NoneAboveAt setting rec P (given ++ gs)) (sym is) (more given gs value value at finds puts (move_grown first tuples value gs carried within finds config told done same) was)
       by_complete k a value of done is carried was = absurd done
 
-      by_value : (o : Option ℕ) → slice_get values rec ≡ o → MatchOption o ⊥ (Carries first tuples) → NoneAboveAt setting rec P given o → NoneAboveAt setting rec P (given ++ gs) (slice_get (values_by values k) rec)
+      by_value : (o : Option Datum) → slice_get values rec ≡ o → MatchOption o ⊥ (Carries first tuples) → NoneAboveAt setting rec P given o → NoneAboveAt setting rec P (given ++ gs) (slice_get (values_by values k) rec)
       by_value None is carried was = absurd carried
       by_value (Some value) is carried was = by_complete k a value of_record done is carried was
 
   -- a manager of another record leaves its value
-  other_value : (values : List ℕ) (k : Kind) → rec ≢ record_of k → slice_get (values_by values k) rec ≡ slice_get values rec
+  other_value : (values : List Datum) (k : Kind) → rec ≢ record_of k → slice_get (values_by values k) rec ≡ slice_get values rec
   other_value values (kind.Write r value) differ = set_elsewhere values r rec value differ
   other_value values _ differ = refl
 
-  other_kind : (given gs : List Given) (values : List ℕ) (k : Kind) → rec ≢ record_of k → All (IsAt setting (record_of k)) gs → NoneAboveAt setting rec P given (slice_get values rec) → NoneAboveAt setting rec P (given ++ gs) (slice_get (values_by values k) rec)
+  other_kind : (given gs : List Given) (values : List Datum) (k : Kind) → rec ≢ record_of k → All (IsAt setting (record_of k)) gs → NoneAboveAt setting rec P given (slice_get values rec) → NoneAboveAt setting rec P (given ++ gs) (slice_get (values_by values k) rec)
   other_kind given gs values k differ at was = subst (NoneAboveAt setting rec P (given ++ gs)) (sym (other_value values k differ)) (by_value (slice_get values rec) was)
     where
-      by_value : (o : Option ℕ) → NoneAboveAt setting rec P given o → NoneAboveAt setting rec P (given ++ gs) o
+      by_value : (o : Option Datum) → NoneAboveAt setting rec P given o → NoneAboveAt setting rec P (given ++ gs) o
       by_value None was = was
       by_value (Some value) was = apart given gs (record_of k) value differ at was
 
@@ -123,7 +124,7 @@ module _ (setting : Setting) (rec : ℕ) (P : Tuple → Type 0) where
         (λ g c. puts g (subst (λ w. Contains w g) (sym parts) (Contains-append_right given (gs ++ later) g (Contains-append_left gs later g c))) (All-contains (IsAt setting rec) gs g at c).of_record)
         gs (All-contains_itself gs)
 
-    above_after : (given : List Given) (values : List ℕ) (dones : List Done) → whole ≡ given ++ given_to dones → All (IsDone setting) dones → Carried setting given values → NoneAboveAt setting rec P given (slice_get values rec)
+    above_after : (given : List Given) (values : List Datum) (dones : List Done) → whole ≡ given ++ given_to dones → All (IsDone setting) dones → Carried setting given values → NoneAboveAt setting rec P given (slice_get values rec)
         → NoneAboveAt setting rec P whole (slice_get (values_after values dones) rec)
     above_after given values [] parts all carried was = subst (λ gs. NoneAboveAt setting rec P gs (slice_get values rec)) (sym (append-nil given) ∙ sym parts) was
     above_after given values (d ∷ dones) parts all carried was =
@@ -145,10 +146,10 @@ module _ (setting : Setting) (rec : ℕ) (P : Tuple → Type 0) where
         at_rec is = subst (λ r. All (IsAt setting r) d.given) (sym is) done.at_record
 
   -- no grant is above what sound copies start with
-  begins : (values : List ℕ) → Carried setting [] values → rec < length setting.firsts → All P (column setting.base rec) → NoneAboveAt setting rec P [] (slice_get values rec)
+  begins : (values : List Datum) → Carried setting [] values → rec < length setting.firsts → All P (column setting.base rec) → NoneAboveAt setting rec P [] (slice_get values rec)
   begins values carried there known = by_value (slice_get values rec) (carried rec there)
     where
-      by_value : (o : Option ℕ) → MatchOption o ⊥ (Carries (first_of setting rec) (left_column setting.base [] rec)) → NoneAboveAt setting rec P [] o
+      by_value : (o : Option Datum) → MatchOption o ⊥ (Carries (first_of setting rec) (left_column setting.base [] rec)) → NoneAboveAt setting rec P [] o
       by_value None carried = carried
       by_value (Some value) carried = record {
         starts = subst (All (Fits (greatest_version (left_column setting.base [] rec)) value)) (sym (column_start setting.base rec)) (carried_fit (first_of setting rec) (left_column setting.base [] rec) value carried);
@@ -156,7 +157,7 @@ module _ (setting : Setting) (rec : ℕ) (P : Tuple → Type 0) where
         known = subst (All P) (column_start setting.base rec) known;
       }
 
-  pub none_above : (values : List ℕ) (dones : List Done) → IsSound setting values → All (IsDone setting) dones → Finds setting.base (given_to dones) → rec < length setting.firsts → All P (column setting.base rec)
+  pub none_above : (values : List Datum) (dones : List Done) → IsSound setting values → All (IsDone setting) dones → Finds setting.base (given_to dones) → rec < length setting.firsts → All P (column setting.base rec)
       → ((g : Given) → Contains (given_to dones) g → g.grant.rec ≡ rec → PutIs P g) → NoneAboveAt setting rec P (given_to dones) (slice_get (values_after values dones) rec)
   none_above values dones sound all finds there known puts =
       let begun = started setting values sound in

@@ -6,6 +6,7 @@ use Rattle.std.proofs.lemmas.List.Elements.{All-get_or, All-from_get_or}
 use Rattle.std.proofs.lemmas.List.Sums.{fold-append}
 use Rattle.qc_config.specs.Config.{Voting, IsLegal, holds_write, no_config}
 use Rattle.qc_config.specs.Copies.{has}
+use Rattle.qc_config.specs.Val.{Datum}
 use Rattle.qc_config.specs.declared.tuple.Op.{Op}
 use Rattle.qc_config.specs.declared.tuple.Op.TheVariants.{PutData}
 use Rattle.qc_config.specs.declared.tuple.Tuple.{Tuple}
@@ -18,10 +19,10 @@ use Rattle.qc_refine.proofs.Copies.Grants.{marked_given, given_within, reads_kee
 use Rattle.qc_refine.proofs.Copies.Folds.{version_bounds, version_is}
 use Rattle.qc_refine.proofs.Copies.Collections.{Seen, sees}
 
-pub read_answers : (first : Voting) (tuples : List Tuple) (value answer : ℕ) (gs : List Given) → Carries first tuples value → Within (length tuples) gs → FindsThere tuples gs → ReadDone first answer gs → answer ≡ value
+pub read_answers : (first : Voting) (tuples : List Tuple) (value answer : Datum) (gs : List Given) → Carries first tuples value → Within (length tuples) gs → FindsThere tuples gs → ReadDone first answer gs → answer ≡ value
 read_answers first tuples value answer gs carried within finds done = done.answered ∙ (sees first tuples value gs carried done.collected within finds).value_is
 
-pub read_leaves : (first : Voting) (tuples : List Tuple) (answer : ℕ) (gs : List Given) → ReadDone first answer gs → after_all tuples gs ≡ tuples
+pub read_leaves : (first : Voting) (tuples : List Tuple) (answer : Datum) (gs : List Given) → ReadDone first answer gs → after_all tuples gs ≡ tuples
 read_leaves first tuples answer gs done = reads_keep tuples gs done.collected.reads
 
 -- a configuration stays passed on where no generation that was greater falls back
@@ -60,7 +61,7 @@ put_greatest config puts tuples later n legal same within enough is most =
     version_is later n one.copy (λ k below. most k (omega (arith, below, same))) (omega (arith, lt, same)) (is one.copy lt given)
 
 -- puts of the newest version at a write quorum of the newest configuration
-put_carries : (first : Voting) (tuples later : List Tuple) (value new : ℕ) (gets puts : List Given) → (carried : Carries first tuples value) → Seen first tuples value gets carried → Within (length tuples) puts → Stored (newest_of first gets).config (PutData ((greatest_of gets).version + 1) new) puts → Changed (PutData ((greatest_of gets).version + 1) new) puts tuples later → Carries first later new
+put_carries : (first : Voting) (tuples later : List Tuple) (value new : Datum) (gets puts : List Given) → (carried : Carries first tuples value) → Seen first tuples value gets carried → Within (length tuples) puts → Stored (newest_of first gets).config (PutData ((greatest_of gets).version + 1) new) puts → Changed (PutData ((greatest_of gets).version + 1) new) puts tuples later → Carries first later new
 put_carries first tuples later value new gets puts carried seen within stored changed = record {
   configs = carried.configs;
   newest = carried.newest;
@@ -124,11 +125,11 @@ pub collected_first : (first : Voting) (tuples : List Tuple) (gets rest : List G
 collected_first first tuples gets rest collected = fold-append after_one tuples gets rest ∙ ap (λ ts. after_all ts rest) (reads_keep tuples gets collected.reads)
 
 -- what a collection saw that others follow
-pub sees_first : (first : Voting) (tuples : List Tuple) (value : ℕ) (gets rest : List Given) → (carried : Carries first tuples value) → Collected first gets → Within (length tuples) (gets ++ rest) → FindsThere tuples (gets ++ rest) → Seen first tuples value gets carried
+pub sees_first : (first : Voting) (tuples : List Tuple) (value : Datum) (gets rest : List Given) → (carried : Carries first tuples value) → Collected first gets → Within (length tuples) (gets ++ rest) → FindsThere tuples (gets ++ rest) → Seen first tuples value gets carried
 sees_first first tuples value gets rest carried collected within finds =
     sees first tuples value gets carried collected (front_within (length tuples) gets rest within) (finds_front tuples gets rest finds)
 
-pub write_carries : (first : Voting) (tuples : List Tuple) (value new : ℕ) (gs : List Given) → Carries first tuples value → Within (length tuples) gs → FindsThere tuples gs → WriteDone first new gs → Carries first (after_all tuples gs) new
+pub write_carries : (first : Voting) (tuples : List Tuple) (value new : Datum) (gs : List Given) → Carries first tuples value → Within (length tuples) gs → FindsThere tuples gs → WriteDone first new gs → Carries first (after_all tuples gs) new
 write_carries first tuples value new gs carried within finds done =
     let inside = subst (Within (length tuples)) done.parts within in
     let there = subst (FindsThere tuples) done.parts finds in

@@ -3,6 +3,7 @@ use Rattle.std.proofs.Common.{◌≡◌, ℕ, ◌+◌, Bool, true, List, [], ◌
 use Rattle.std.specs.Prelude.{fold}
 use Rattle.std.proofs.lemmas.List.Elements.{All-nil, All-cons}
 use Rattle.qc_config.specs.Config.{Voting, IsLegal, holds_read, holds_write}
+use Rattle.qc_config.specs.Val.{Datum}
 use Rattle.qc_config.specs.declared.tuple.Op.{Op}
 use Rattle.qc_config.specs.declared.tuple.Op.TheVariants.{PutData, PutConfig}
 use Rattle.qc_event.specs.declared.event.Answer.{Answer}
@@ -52,7 +53,7 @@ module _ (setting : Setting) (past : Past) (m : Name) where
         answered = ap (λ (g : Greatest). g.value) (greatest_is past first m (served past m) has.collected);
       })
 
-  write_done : (rec value : ℕ) (told : Answer) → HasWritten past (first_of setting rec) m value told → Complete (first_of setting rec) (kind.Write rec value) told (served past m)
+  write_done : (rec : ℕ) (value : Datum) (told : Answer) → HasWritten past (first_of setting rec) m value told → Complete (first_of setting rec) (kind.Write rec value) told (served past m)
   write_done rec value told has =
       let first = first_of setting rec in
       let newest_same = newest_is past first m has.gets has.collected in

@@ -2,6 +2,7 @@
 use Rattle.std.proofs.Common.{◌≡◌, ℕ, List, [], ◌∷◌, ◌++◌, sym, ap, ◌∙◌, subst, append_assoc}
 use Rattle.std.specs.Prelude.{All, None}
 use Rattle.std.proofs.lemmas.Grind.{flat_map-append}
+use Rattle.qc_config.specs.Val.{Datum}
 use Rattle.qc_config.specs.declared.tuple.Tuple.{Tuple}
 use Rattle.qc_event.specs.Base.{Setting}
 use Rattle.qc_event.specs.Dead.{dead}
@@ -21,11 +22,11 @@ finds_front : (base : List (List Tuple)) (xs ys : List Given) → Finds base (xs
 finds_front base xs ys h earlier later g is = h earlier (later ++ ys) g (ap (λ zs. zs ++ ys) is ∙ append_assoc earlier (g ∷ later) ys)
 
 -- among answers that are values each is
-answers_at : (values : List ℕ) (earlier later : List Done) (d : Done) → AnswerValues values (earlier ++ d ∷ later) → AnswersValue (values_after values earlier) d.kind d.answer
+answers_at : (values : List Datum) (earlier later : List Done) (d : Done) → AnswerValues values (earlier ++ d ∷ later) → AnswersValue (values_after values earlier) d.kind d.answer
 answers_at values [] later d h = h.0
 answers_at values (x ∷ earlier) later d h = answers_at (values_by values x.kind) earlier later d h.1
 
-module _ (setting : Setting) (values : List ℕ) (past : Past) (t : Name) (legal : Legal setting past) (sound : IsSound setting values) (user : IsUserOf past t) (alive : dead past t ≡ None) where
+module _ (setting : Setting) (values : List Datum) (past : Past) (t : Name) (legal : Legal setting past) (sound : IsSound setting values) (user : IsUserOf past t) (alive : dead past t ≡ None) where
   front_done : (front rest : List Done) → dones_order past t ≡ front ++ rest → All (IsDone setting) front
   front_done front rest is = all_front (IsDone setting) front rest (subst (All (IsDone setting)) is (done setting values past t legal sound user alive))
 

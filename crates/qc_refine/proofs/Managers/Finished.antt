@@ -5,6 +5,7 @@ use Rattle.std.specs.List.{list_all}
 use Rattle.std.proofs.lemmas.Bool.{and_parts}
 use Rattle.std.proofs.lemmas.Option.{same_Some}
 use Rattle.qc_config.specs.Config.{Voting}
+use Rattle.qc_config.specs.Val.{Datum}
 use Rattle.qc_event.specs.declared.event.Answer.{Answer}
 use Rattle.qc_event.specs.declared.event.How.TheVariants.{Commit}
 use Rattle.qc_event.specs.declared.event.Kind.{Kind}
@@ -44,7 +45,7 @@ module _ (setting : Setting) (past : Past) (m : Name) (given : Answer) where
         answers = may.answers;
       }
 
-  write_done : (rec value : ℕ) → IsParted past (first_of setting rec) m (kind.Write rec value) → IsThrough past (first_of setting rec) m (kind.Write rec value) given → HasWritten past (first_of setting rec) m value given
+  write_done : (rec : ℕ) (value : Datum) → IsParted past (first_of setting rec) m (kind.Write rec value) → IsThrough past (first_of setting rec) m (kind.Write rec value) given → HasWritten past (first_of setting rec) m value given
   write_done rec value p may =
       let enough = and_parts _ _ (all_enough past (first_of setting rec) m (kind.Write rec value) may.complete) in
       let written = and_parts _ true enough.1 in

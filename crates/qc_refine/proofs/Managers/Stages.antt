@@ -3,6 +3,7 @@ use Rattle.std.proofs.Common.{◌≡◌, ℕ, ◌+◌, Bool, true, false, List, 
 use Rattle.std.specs.Prelude.{Option, None, Some, find, fold, cond, not, ◌&&◌, if◌then◌else◌}
 use Rattle.std.proofs.lemmas.Option.{none-some}
 use Rattle.qc_config.specs.Config.{Voting, no_config, holds_read, holds_write}
+use Rattle.qc_config.specs.Val.{Number}
 use Rattle.qc_config.specs.declared.tuple.Op.{Op}
 use Rattle.qc_config.specs.declared.tuple.Op.TheVariants.{PutData, PutConfig}
 use Rattle.qc_config.specs.declared.tuple.Tuple.{Tuple}
@@ -34,7 +35,7 @@ stage_by first k tuples marks =
 abbrev pub put_op : Kind → Greatest → Op
 put_op (kind.Write rec value) found = PutData (found.version + 1) value
 put_op (kind.Reconf rec config) found = PutData found.version found.value
-put_op _ found = PutData 0 0
+put_op _ found = PutData 0 (Number 0)
 
 abbrev pub move_op : Kind → Newest → Op
 move_op (kind.Reconf rec config) now = PutConfig (now.generation + 1) config

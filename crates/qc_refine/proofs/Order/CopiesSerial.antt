@@ -3,6 +3,7 @@ use Rattle.std.proofs.Common.{◌≡◌, ℕ, zero, suc, ◌<◌, ◌≤◌, Lis
 use Rattle.std.specs.Prelude.{All, Option, None, Some, MatchOption, slice_get}
 use Rattle.std.proofs.lemmas.Option.{slice_get_within}
 use Rattle.std.proofs.lemmas.List.Elements.{All-weaker}
+use Rattle.qc_config.specs.Val.{Datum}
 use Rattle.qc_event.specs.Base.{Setting, first_of}
 use Rattle.qc_event.specs.Dead.{dead}
 use Rattle.qc_event.specs.History.{Past, Name}
@@ -28,10 +29,10 @@ use Rattle.qc_refine.proofs.Order.Grounded.{grounded}
 use Rattle.qc_refine.proofs.Copies.InTurn.{reads_answer, left_sound}
 
 -- a sound setting has a value for each record
-has_values : (setting : Setting) (values : List ℕ) → IsSound setting values → length setting.firsts ≤ length values
+has_values : (setting : Setting) (values : List Datum) → IsSound setting values → length setting.firsts ≤ length values
 has_values setting values sound = by_size (length setting.firsts) refl
   where
-    by_value : (rec : ℕ) (o : Option ℕ) → slice_get values rec ≡ o → MatchOption o ⊥ (Carries (first_of setting rec) (column setting.base rec)) → rec < length values
+    by_value : (rec : ℕ) (o : Option Datum) → slice_get values rec ≡ o → MatchOption o ⊥ (Carries (first_of setting rec) (column setting.base rec)) → rec < length values
     by_value rec None is carried = absurd carried
     by_value rec (Some value) is carried = slice_get_within values rec value is
 
@@ -39,7 +40,7 @@ has_values setting values sound = by_size (length setting.firsts) refl
     by_size zero is = omega arith
     by_size (suc n) is = let last = by_value n (slice_get values n) refl (sound n (omega arith)) in omega arith
 
-module _ (setting : Setting) (values : List ℕ) (past : Past) (t : Name) (legal : Legal setting past) (sound : IsSound setting values) (user : IsUserOf past t) (alive : dead past t ≡ None) where
+module _ (setting : Setting) (values : List Datum) (past : Past) (t : Name) (legal : Legal setting past) (sound : IsSound setting values) (user : IsUserOf past t) (alive : dead past t ≡ None) where
   pub done : All (IsDone setting) (dones_order past t)
   done = order_done setting past t (grounded setting values sound) legal
 
@@ -65,18 +66,18 @@ module _ (setting : Setting) (values : List ℕ) (past : Past) (t : Name) (legal
       subst (λ given. IsSound (left_setting setting given) (after values (serialise past t))) (given_order setting past t legal user)
       (subst (IsSound (left_setting setting (given_to (dones_order past t)))) values_are (left_sound setting values (dones_order past t) sound done there))
 
-pub serial_order : (setting : Setting) (values : List ℕ) (past : Past) (t : Name) → Legal setting past → IsSound setting values → IsUserOf past t → dead past t ≡ None → IsSerialFor values past t
+pub serial_order : (setting : Setting) (values : List Datum) (past : Past) (t : Name) → Legal setting past → IsSound setting values → IsUserOf past t → dead past t ≡ None → IsSerialFor values past t
 serial_order setting values past t legal sound user alive = serial setting values past t legal sound user alive
 
 -- the values after the root's order are the final ones
-root_values : (values : List ℕ) (past : Past) → after values (serialise past []) ≡ final_values values past
+root_values : (values : List Datum) (past : Past) → after values (serialise past []) ≡ final_values values past
 root_values values past = ap (after values) (serialise_root past) ∙ sym (shape.values_after (machine.begin values) (walk past []))
 
-pub final_are : (setting : Setting) (values : List ℕ) (past : Past) → Legal setting past → IsSound setting values → values_after values (dones_order past []) ≡ final_values values past
+pub final_are : (setting : Setting) (values : List Datum) (past : Past) → Legal setting past → IsSound setting values → values_after values (dones_order past []) ≡ final_values values past
 final_are setting values past legal sound = values_are setting values past [] legal sound tt (root_alive setting past legal) ∙ root_values values past
 
 -- what all that was handed up leaves at the copies carries the final values
-pub left_copies : (setting : Setting) (values : List ℕ) (past : Past) → Legal setting past → IsSound setting values → IsSound (left_setting setting (served_order past [])) (final_values values past)
+pub left_copies : (setting : Setting) (values : List Datum) (past : Past) → Legal setting past → IsSound setting values → IsSound (left_setting setting (served_order past [])) (final_values values past)
 left_copies setting values past legal sound =
     subst (IsSound (left_setting setting (served_order past []))) (root_values values past)
     (left_for setting values past [] legal sound tt (root_alive setting past legal))

@@ -4,9 +4,12 @@ use Rattle.std.proofs.Common.{◌≡◌, ℕ, ◌<◌, ◌≤◌, ◌==◌, Bool
 use Rattle.std.specs.Prelude.{All, Option, None, Some, slice_get, filter, if◌then◌else◌}
 use Rattle.std.specs.Option.{option_map_or}
 use Rattle.std.specs.List.{flat_map}
-use Rattle.std.proofs.lemmas.Bool.{eq-eqb, lt-ltb}
+use Rattle.std.proofs.lemmas.Bool.{lt-ltb}
 use Rattle.std.proofs.lemmas.List.{length-set}
 use Rattle.std.proofs.lemmas.List.Elements.{All-nil, All-cons, All-head, All-tail}
+use Rattle.qc_config.specs.Same.{same_decides}
+use Rattle.qc_config.specs.Val as val
+use Rattle.qc_config.specs.Val.{Datum}
 use Rattle.qc_event.specs.declared.event.Answer.{Answer}
 use Rattle.qc_event.specs.declared.event.Answer.TheVariants as answer
 use Rattle.qc_event.specs.declared.event.Cause.{Cause}
@@ -38,26 +41,26 @@ pub all_back : {X : Type 0} (P : X → Type 0) (xs ys : List X) → All P (xs ++
 all_back P [] ys h = h
 all_back P (x ∷ xs) ys h = all_back P xs ys (All-tail P x (xs ++ ys) h)
 
-answers_front : (values : List ℕ) (xs ys : List Done) → AnswerValues values (xs ++ ys) → AnswerValues values xs
+answers_front : (values : List Datum) (xs ys : List Done) → AnswerValues values (xs ++ ys) → AnswerValues values xs
 answers_front values [] ys h = tt
 answers_front values (d ∷ xs) ys h = (h.0, answers_front (values_by values d.kind) xs ys h.1)
 
-answers_back : (values : List ℕ) (xs ys : List Done) → AnswerValues values (xs ++ ys) → AnswerValues (values_after values xs) ys
+answers_back : (values : List Datum) (xs ys : List Done) → AnswerValues values (xs ++ ys) → AnswerValues (values_after values xs) ys
 answers_back values [] ys h = h
 answers_back values (d ∷ xs) ys h = answers_back (values_by values d.kind) xs ys h.1
 
-values-append : (values : List ℕ) (xs ys : List Done) → values_after values (xs ++ ys) ≡ values_after (values_after values xs) ys
+values-append : (values : List Datum) (xs ys : List Done) → values_after values (xs ++ ys) ≡ values_after (values_after values xs) ys
 values-append values [] ys = refl
 values-append values (d ∷ xs) ys = values-append (values_by values d.kind) xs ys
 
-by_length : (values : List ℕ) (k : Kind) → length (values_by values k) ≡ length values
+by_length : (values : List Datum) (k : Kind) → length (values_by values k) ≡ length values
 by_length values (kind.Write rec value) = length-set values rec value
 by_length values (kind.User session body) = refl
 by_length values (kind.Read rec) = refl
 by_length values (kind.Reconf rec config) = refl
 by_length values kind.Access = refl
 
-pub after_length : (values : List ℕ) (ds : List Done) → length (values_after values ds) ≡ length values
+pub after_length : (values : List Datum) (ds : List Done) → length (values_after values ds) ≡ length values
 after_length values [] = refl
 after_length values (d ∷ ds) = after_length (values_by values d.kind) ds ∙ by_length values d.kind
 
@@ -68,13 +71,13 @@ abbrev pub Below : ℕ → Done → Type 0
 Below n d = record_of d.kind < n
 
 -- each read of events finds its value, and they leave the values that managers leave
-pub record DonesFollow (values : List ℕ) (es : List SerialEvent) (ds : List Done) : Type 0 where
+pub record DonesFollow (values : List Datum) (es : List SerialEvent) (ds : List Done) : Type 0 where
   pub reads : Reads values es
   pub leaves : after values es ≡ values_after values ds
 
 -- events follow managers from any values on, of all the records, at which those answer
 abbrev pub Follow : ℕ → List SerialEvent → List Done → Type 0
-Follow n es ds = (values : List ℕ) → n ≤ length values → All (Below n) ds → AnswerValues values ds → DonesFollow values es ds
+Follow n es ds = (values : List Datum) → n ≤ length values → All (Below n) ds → AnswerValues values ds → DonesFollow values es ds
 
 nothing : (n : ℕ) → Follow n [] []
 nothing n values long below told = record { reads = tt; leaves = refl }
@@ -89,8 +92,8 @@ both n es fs ds gs front back values long below told =
       leaves = after-append values es fs ∙ ap (λ vs. after vs fs) a.leaves ∙ b.leaves ∙ sym (values-append values ds gs);
     }
 
-has_its_value : (values : List ℕ) (rec value : ℕ) → slice_get values rec ≡ Some value → has_value values rec value ≡ true
-has_its_value values rec value is = ap (λ o. option_map_or (λ v. v == value) o false) is ∙ eq-eqb value value refl
+has_its_value : (values : List Datum) (rec : ℕ) (value : Datum) → slice_get values rec ≡ Some value → has_value values rec value ≡ true
+has_its_value values rec value is = ap (λ o. option_map_or (λ v. val.same v value) o false) is ∙ (same_decides value value).1 refl
 
 -- a user child that commits is entered, follows, and is left
 entered : (n : ℕ) (c : Name) (inner : List SerialEvent) (ds : List Done) → Follow n inner ds → Follow n (Enter c ∷ inner ++ Leave c ∷ []) ds

@@ -8,6 +8,7 @@ use Rattle.std.proofs.lemmas.List.{length-map, get_or-map}
 use Rattle.std.proofs.lemmas.List.Elements.{All-get_or}
 use Rattle.std.proofs.lemmas.Option.{same_Some}
 use Rattle.qc_config.specs.Config.{Voting, IsLegal}
+use Rattle.qc_config.specs.Val.{Datum}
 use Rattle.qc_config.specs.declared.tuple.Tuple.{Tuple}
 use Rattle.qc_event.specs.Base.{Setting, first_of, no_tuple, start_tuple}
 use Rattle.qc_event.specs.Sound.{Carries, IsSound, column, greatest_version}
@@ -32,7 +33,7 @@ held_copy : (base : List (List Tuple)) (rec version : ℕ) → Held (map (λ (t 
 held_copy [] rec version held = absurd (true≢false (sym held.here))
 held_copy (row ∷ base) rec version held = omega arith
 
-module _ (first : Voting) (base : List (List Tuple)) (rec value : ℕ) (carried : Carries first (column base rec) value) where
+module _ (first : Voting) (base : List (List Tuple)) (rec : ℕ) (value : Datum) (carried : Carries first (column base rec) value) where
   carried_copy : 0 < length base
   carried_copy = held_copy base rec (greatest_version (column base rec)) (writer_holds carried.newest _ (legal_last carried.configs carried.newest carried.legal carried.ends) carried.version_held)
 
@@ -48,7 +49,7 @@ module _ (first : Voting) (base : List (List Tuple)) (rec value : ℕ) (carried 
       subst (λ t. slice_get carried.configs t.generation ≡ Some t.config) at listed in
       same_Some (start_tuple base copy rec).config first (sym here ∙ ap (slice_get carried.configs) zeroth ∙ carried.begins)
 
-pub grounded : (setting : Setting) (values : List ℕ) → IsSound setting values → IsGrounded setting
+pub grounded : (setting : Setting) (values : List Datum) → IsSound setting values → IsGrounded setting
 grounded setting values sound = record {
   some_copy = λ rec there. by_value (0 < length setting.base) (slice_get values rec) rec (λ value. carried_copy (first_of setting rec) setting.base rec value) (sound rec there);
   some_read = λ rec there. by_value (0 < (first_of setting rec).read) (slice_get values rec) rec (λ value. carried_read (first_of setting rec) setting.base rec value) (sound rec there);
@@ -56,6 +57,6 @@ grounded setting values sound = record {
       (λ value carried. carried_start (first_of setting rec) setting.base rec value carried copy lt) (sound rec there);
 }
   where
-    by_value : (P : Type 0) (o : Option ℕ) (rec : ℕ) → ((value : ℕ) → Carries (first_of setting rec) (column setting.base rec) value → P) → MatchOption o ⊥ (Carries (first_of setting rec) (column setting.base rec)) → P
+    by_value : (P : Type 0) (o : Option Datum) (rec : ℕ) → ((value : Datum) → Carries (first_of setting rec) (column setting.base rec) value → P) → MatchOption o ⊥ (Carries (first_of setting rec) (column setting.base rec)) → P
     by_value P None rec given carried = absurd carried
     by_value P (Some value) rec given carried = given value carried

@@ -5,6 +5,7 @@ use Rattle.std.specs.List.{Contains, range_with_len}
 use Rattle.std.proofs.lemmas.List.Elements.{All-append, All-weaker, All-get_or, All-contains, All-contains_itself, Contains-append_left, Contains-append_right}
 use Rattle.std.proofs.lemmas.List.FromFn.{fill_by_all}
 use Rattle.std.proofs.lemmas.Option.{get_or_from_slice_get}
+use Rattle.qc_config.specs.Val.{Datum, Number}
 use Rattle.qc_config.specs.declared.tuple.Tuple.{Tuple}
 use Rattle.qc_event.specs.Base.{Setting, first_of, no_tuple}
 use Rattle.qc_event.specs.History.{Past, Given, every}
@@ -29,7 +30,7 @@ use Rattle.qc_refine.proofs.Copies.NoneAbove.{FitsOf, NoneAboveAt, none_above}
 use Rattle.qc_refine.proofs.Order.DonesWalk.{after_length}
 
 -- the greatest of tuples that fit a version, one of which has it, has the value
-greatest_fits : (version value : ℕ) (tuples : List Tuple) (t : Tuple) → All (Fits version value) tuples → Contains tuples t → t.version ≡ version → (greatest_among tuples).value ≡ value
+greatest_fits : (version : ℕ) (value : Datum) (tuples : List Tuple) (t : Tuple) → All (Fits version value) tuples → Contains tuples t → t.version ≡ version → (greatest_among tuples).value ≡ value
 greatest_fits version value tuples t fits among at = best.1 same
   where
     best : ((greatest_among tuples).version ≤ version) × ((greatest_among tuples).version ≡ version → (greatest_among tuples).value ≡ value)
@@ -41,7 +42,7 @@ greatest_fits version value tuples t fits among at = best.1 same
         let high = best.0 in
         omega (arith, low, high, at)
 
-module _ (setting : Setting) (values : List ℕ) (past : Past) (rec : ℕ) (legal : Legal setting past) (sound : IsSound setting values) (here : rec < length setting.firsts) where
+module _ (setting : Setting) (values : List Datum) (past : Past) (rec : ℕ) (legal : Legal setting past) (sound : IsSound setting values) (here : rec < length setting.firsts) where
   abbrev whole : List Given
   whole = served_order past []
 
@@ -66,7 +67,7 @@ module _ (setting : Setting) (values : List ℕ) (past : Past) (rec : ℕ) (lega
   carried : MatchOption (slice_get (final_values values past) rec) ⊥ (Carries (first_of setting rec) tuples)
   carried = subst (λ ts. MatchOption (slice_get (final_values values past) rec) ⊥ (Carries (first_of setting rec) ts)) (column_left setting whole rec here) (left_copies setting values past legal sound rec here)
 
-  by_value : (o : Option ℕ) → MatchOption o ⊥ (Carries (first_of setting rec) tuples) → NoneAboveAt setting rec Known whole o → o ≡ Some (final_value setting.base past rec)
+  by_value : (o : Option Datum) → MatchOption o ⊥ (Carries (first_of setting rec) tuples) → NoneAboveAt setting rec Known whole o → o ≡ Some (final_value setting.base past rec)
   by_value None carried was = absurd carried
   by_value (Some value) carried was = ap (λ v. Some v) (sym (
       greatest_fits top value (last_tuples setting.base past rec) (tuple_at tuples copy.copy)
@@ -87,9 +88,9 @@ module _ (setting : Setting) (values : List ℕ) (past : Past) (rec : ℕ) (lega
 
 -- ALL RECORDS
 
-pub last_values : (setting : Setting) (values : List ℕ) (past : Past) → Legal setting past → IsSound setting values → length values ≡ length setting.firsts
+pub last_values : (setting : Setting) (values : List Datum) (past : Past) → Legal setting past → IsSound setting values → length values ≡ length setting.firsts
     → final_values values past ≡ map (final_value setting.base past) (range_with_len 0 (length setting.firsts))
 last_values setting values past legal sound many =
-    fill_by_all (final_value setting.base past) (final_values values past) (length setting.firsts) 0
+    fill_by_all (final_value setting.base past) (final_values values past) (length setting.firsts) (Number 0)
     (ap length (sym (final_are setting values past legal sound)) ∙ after_length values (dones_order past []) ∙ many)
-    (λ rec here. get_or_from_slice_get (final_values values past) rec (final_value setting.base past rec) 0 (last_value setting values past rec legal sound here))
+    (λ rec here. get_or_from_slice_get (final_values values past) rec (final_value setting.base past rec) (Number 0) (last_value setting values past rec legal sound here))

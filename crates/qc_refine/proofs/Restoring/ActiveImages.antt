@@ -16,7 +16,6 @@ use Rattle.qc_event.specs.History.{Past}
 use Rattle.qc_event.specs.Standing.{HasEnded}
 use Rattle.qc_event.specs.Tables.{setting_of}
 use Rattle.qc_journal.proofs.Readings.{records-same}
-use Rattle.qc_journal.specs.Image.{HasRecords}
 use Rattle.qc_refine.specs.Folded.{begins, seen_row}
 use Rattle.qc_refine.specs.Images.{IsCopyBodies, IsLedgerBodies}
 use Rattle.qc_refine.specs.Listed.{logged}
@@ -24,7 +23,7 @@ use Rattle.qc_refine.specs.Pairs.{IsFoldedCopy, IsFoldedLedger, RestoreInPairs, 
 use Rattle.qc_refine.specs.Restored.{Kept, granted_at, restored}
 use Rattle.qc_refine.proofs.Restoring.Actives.{ActivesRestore, ActivesStand, AreActive, AreOfImage, first_told, kept_told}
 use Rattle.qc_refine.proofs.Restoring.ImageReadings.{copy_tells, ledger_tells}
-use Rattle.qc_refine.proofs.Restoring.PairImages.{each_has, some_told, tells_read, told_too}
+use Rattle.qc_refine.proofs.Restoring.PairImages.{HasSome, each_has, some_told, tells_read, told_too}
 
 -- WHAT STANDS
 
@@ -76,7 +75,7 @@ module _ (table : Table) (base : List (List Tuple)) (epoch : ℕ) (past : Past) 
 -- WHAT IS RESTORED
 
 module _ (table : Table) (disk : ℕ → ℕ) (images actives : List (List ℕ)) (are : AreActive table disk images actives) (tuples : List (List Tuple)) (r : ActivesRestore table actives tuples) where
-  read : (place : ℕ) → (bodies : List (List ℕ)) × HasRecords bodies (get_or images place [])
+  read : (place : ℕ) → HasSome images place
   read = each_has table images are.as_many (some_told _ are.ledger) (λ copy there. some_told _ (are.copies copy there))
 
   abbrev bodies : ℕ → List (List ℕ)

@@ -7,6 +7,7 @@ use Rattle.std.proofs.lemmas.Bool.{and_parts, and_from, false_from_ne_true}
 use Rattle.std.proofs.lemmas.List.Elements.{All-head, All-tail, All-weaker}
 use Rattle.std.proofs.lemmas.List.FromFn.{get_or-map-range_with_len}
 use Rattle.qc_names.specs.Name as name
+use Rattle.qc_config.specs.Val.{Datum}
 use Rattle.qc_config.specs.declared.tuple.Tuple.{Tuple}
 use Rattle.qc_event.specs.Base.{Setting, no_tuple, start_tuple}
 use Rattle.qc_event.specs.Dead.{ancestors, dead, outcome, is_committed}
@@ -230,7 +231,7 @@ module _ (first : List (List Tuple)) (epoch : ℕ) (setting : Setting) (before n
         ∙ grids_agree (length first) (length setting.firsts) (λ copy rec. restored_tuple now.tops rec (start_tuple first copy rec) (granted_at now copy))
         (λ copy rec. restored_tuple now'.tops rec (start_tuple first' copy rec) (granted_at now' copy)) each_alike
 
-    pub folded_sound : (values : List ℕ) → IsSound setting values → IsSound (restored_setting first' setting now') (final_values values (committed_too past s.more))
+    pub folded_sound : (values : List Datum) → IsSound setting values → IsSound (restored_setting first' setting now') (final_values values (committed_too past s.more))
     folded_sound values sound =
         subst (λ (base : List (List Tuple)). IsSound (record { firsts = setting.firsts; base = base }) (final_values values (committed_too past s.more))) (sym restore_alike)
         (restored_sound first epoch setting before now past legal s values sound)

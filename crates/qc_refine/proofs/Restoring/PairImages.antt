@@ -1,10 +1,11 @@
 -- What images of pairs restore that stand beside a legal history is sound for the values after it.
-use Rattle.std.proofs.Common.{◌≡◌, ℕ, zero, suc, ◌+◌, ◌-◌, ◌<◌, inl, inr, ⊎_elim, List, [], ◌++◌, length, get_or, refl, sym, ap, ◌∙◌, subst, arith}
+use Rattle.std.proofs.Common.{◌≡◌, ℕ, zero, suc, ◌+◌, ◌-◌, ◌<◌, ◌≤◌, inl, inr, ⊎_elim, List, [], ◌++◌, length, get_or, refl, sym, ap, ◌∙◌, subst, arith}
 use Rattle.std.specs.Prelude.{Some}
 use Rattle.std.proofs.lemmas.Bool.{cases_lt}
 use Rattle.std.proofs.lemmas.List.{get_or_past}
 use Rattle.std.proofs.lemmas.List.Elements.{All-cons, All-nil}
 use Rattle.std.proofs.lemmas.List.FromFn.{length-map-range_with_len, get_or-map-range_with_len}
+use Rattle.qc_config.specs.Val.{Datum}
 use Rattle.qc_codec.specs.Base.{active, active_disk, base_in, copy_base, tuples_of_base}
 use Rattle.qc_codec.specs.Copy.{grant_form}
 use Rattle.qc_codec.specs.Form.{Form}
@@ -101,7 +102,7 @@ module _ (table : Table) (images : List (List ℕ)) (base : List (List Tuple)) (
         standing.ledger;
   }
 
-  module _ (values : List ℕ) (legal : Legal (setting_of table base) past) (sound : IsSound (setting_of table base) values) where
+  module _ (values : List Datum) (legal : Legal (setting_of table base) past) (sound : IsSound (setting_of table base) values) where
     pub pairs_carry_final : CarryFinal table values (committed_too past standing.beside.more) tuples
     pairs_carry_final = folded_carry table base epoch past first standing.before standing.now standing.beside (first_in table r.bodies) (kept_in_pairs table r.bodies) pairs tuples r.same values legal sound
 
@@ -125,26 +126,31 @@ AnyBodies number bodies = Unit {0}
 pub some_told : {form : Table → Form BaseRecord} {disk : ℕ} {image image' : List ℕ} (Tells : ℕ → List (List ℕ) → Type 0) → TellsPair form disk Tells image image' → TellsPair form disk AnyBodies image image'
 some_told Tells t = told_too Tells AnyBodies (λ number bodies is. tt) t
 
+-- the image at a place has records
+abbrev pub HasSome : List (List ℕ) → ℕ → Type 0
+HasSome images place = (bodies : List (List ℕ)) × HasRecords bodies (get_or images place [])
+
+-- what is read past the last image has none
+pub none_past : (images : List (List ℕ)) (place : ℕ) → length images ≤ place → HasSome images place
+none_past images place past_all = ([], inl (refl, omega (arith, ap length (get_or_past images place [] past_all))))
+
 -- Where each pair has records, so has each image, and they restore something.
 module _ (table : Table) (images : List (List ℕ)) (as_many : length images ≡ table.copies + 1 + (table.copies + 1))
     (ledger : TellsLedger table images AnyBodies) (copies : (copy : ℕ) → copy < table.copies → TellsCopy table images copy AnyBodies) where
-  abbrev HasSome : ℕ → Type 0
-  HasSome place = (bodies : List (List ℕ)) × HasRecords bodies (get_or images place [])
-
-  own_have : (number : ℕ) → number < table.copies + 1 → HasSome number
+  own_have : (number : ℕ) → number < table.copies + 1 → HasSome images number
   own_have zero there = (ledger.own, ledger.has)
-  own_have (suc copy) there = let t = copies copy (omega (arith, there)) in subst HasSome (omega arith) (t.own, t.has)
+  own_have (suc copy) there = let t = copies copy (omega (arith, there)) in subst (HasSome images) (omega arith) (t.own, t.has)
 
-  spares_have : (number : ℕ) → number < table.copies + 1 → HasSome (table.copies + 1 + number)
+  spares_have : (number : ℕ) → number < table.copies + 1 → HasSome images (table.copies + 1 + number)
   spares_have zero there = (ledger.spare, ledger.has_spare)
-  spares_have (suc copy) there = let t = copies copy (omega (arith, there)) in subst HasSome (omega arith) (t.spare, t.has_spare)
+  spares_have (suc copy) there = let t = copies copy (omega (arith, there)) in subst (HasSome images) (omega arith) (t.spare, t.has_spare)
 
-  pub each_has : (place : ℕ) → HasSome place
+  pub each_has : (place : ℕ) → HasSome images place
   each_has place = elim (cases_lt place (table.copies + 1)) [
     | inl own ↦ own_have place own
     | inr behind ↦ elim (cases_lt (place - (table.copies + 1)) (table.copies + 1)) [
-      | inl spare ↦ subst HasSome (omega (arith, behind)) (spares_have (place - (table.copies + 1)) spare)
-      | inr none ↦ ([], inl (refl, omega (arith, ap length (get_or_past images place [] (omega (arith, as_many, behind, none))))))
+      | inl spare ↦ subst (HasSome images) (omega (arith, behind)) (spares_have (place - (table.copies + 1)) spare)
+      | inr none ↦ none_past images place (omega (arith, as_many, behind, none))
     ]
   ]
 

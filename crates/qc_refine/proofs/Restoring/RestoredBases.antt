@@ -4,6 +4,7 @@ use mathlib.Core.Bool.{true≢false}
 use Rattle.std.specs.Prelude.{map, Some}
 use Rattle.std.proofs.lemmas.List.{get_or-replicate, length-map, length-replicate}
 use Rattle.std.proofs.lemmas.List.Elements.{All-nil}
+use Rattle.qc_config.specs.Val.{Datum}
 use Rattle.qc_config.specs.declared.tuple.Tuple.{Tuple}
 use Rattle.qc_event.specs.declared.table.Row.{Row}
 use Rattle.qc_event.specs.declared.table.Table.{Table}
@@ -27,8 +28,8 @@ use Rattle.qc_refine.proofs.Restoring.FoldedPairs.{folded_sound}
 -- What disks restore whose pairs are as they were or were folded carries the serial machine's values.
 module _ (table : Table) (base : List (List Tuple)) (epoch : ℕ) (past : Past) (first : List (List Tuple)) (before now : Kept) (beside : StandBeside first epoch (setting_of table base) before now past)
     (first' : List (List Tuple)) (now' : Kept) (folded : AreFoldedPairs (setting_of table base) past first first' now now') (tuples : List (List Tuple)) (same : tuples ≡ restored first' (length table.records) now')
-    (values : List ℕ) (legal : Legal (setting_of table base) past) (sound : IsSound (setting_of table base) values) where
-  abbrev finals : List ℕ
+    (values : List Datum) (legal : Legal (setting_of table base) past) (sound : IsSound (setting_of table base) values) where
+  abbrev finals : List Datum
   finals = final_values values (committed_too past beside.more)
 
   same_setting : restored_setting first' (setting_of table base) now' ≡ setting_of table tuples

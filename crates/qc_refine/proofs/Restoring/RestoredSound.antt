@@ -2,6 +2,7 @@
 use Rattle.std.proofs.Common.{◌≡◌, ℕ, ◌<◌, List, [], ◌∷◌, ◌++◌, length, refl, sym, ap, ap₂, ◌∙◌, subst, append-nil, append_assoc}
 use Rattle.std.specs.Prelude.{Option, None, Some, is_some, MatchOption}
 use Rattle.std.proofs.lemmas.List.Elements.{All-weaker}
+use Rattle.qc_config.specs.Val.{Datum}
 use Rattle.qc_config.specs.declared.tuple.Tuple.{Tuple}
 use Rattle.qc_event.specs.declared.event.Answer.TheVariants.{Nothing}
 use Rattle.qc_event.specs.declared.event.Grant.{Grant}
@@ -121,7 +122,7 @@ module _ (first : List (List Tuple)) (epoch : ℕ) (setting : Setting) (before n
       grids_agree (length first) (length setting.firsts) left is each
       ∙ ap (λ n. grid n (length setting.firsts) left) (sym copies)
 
-  pub restored_sound : (values : List ℕ) → IsSound setting values → IsSound (restored_setting first setting now) (final_values values (committed_too past s.more))
+  pub restored_sound : (values : List Datum) → IsSound setting values → IsSound (restored_setting first setting now) (final_values values (committed_too past s.more))
   restored_sound values sound =
       subst (λ (base : List (List Tuple)). IsSound (record { firsts = setting.firsts; base = base }) (final_values values (committed_too past s.more))) (sym same_base)
       (left_copies setting values (committed_too past s.more) (legal_too setting past s.more legal s.next) sound)

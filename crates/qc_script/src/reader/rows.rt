@@ -14,7 +14,7 @@ use crate::reader::object::{
     check_object, check_within, limited, list_at, member_at, number_at, text_at,
 };
 use indexmap::IndexSet;
-use qc_event::{Config, Label, Row, Rows, Table};
+use qc_event::{Config, Label, Row, Rows, Table, Val};
 use serde_json::Value;
 use std::alloc::Global;
 
@@ -135,7 +135,7 @@ fn row_of<'v>(
     let config = config_of(alloc, copies, config)?;
     Ok(Row {
         name,
-        start,
+        start: Val::number(start),
         config,
     })
 }

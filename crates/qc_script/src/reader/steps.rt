@@ -10,6 +10,7 @@ ghost use Rattle.qc_script.specs.Reading.{Gives};
 use crate::bad_script::{BadScript, Member};
 use crate::reader::rows::{Records, check_name, config_of};
 use crate::script::Step;
+use qc_event::Val;
 use serde_json::Value;
 use std::alloc::Global;
 
@@ -71,7 +72,8 @@ fn set_of(
     ensures { (next : ℕ) → Gives (λ s. (put s, next)) result
         (script.set_of records.now.table next (view rec.now) (view value.now)) }
 {
-    let (rec, value) = amount_of(alloc, records, rec, value)?;
+    let (rec, number) = amount_of(alloc, records, rec, value)?;
+    let value = Val::number(number);
     Ok(Step::Set { rec, value })
 }
 

@@ -1,6 +1,7 @@
 use Rattle.std.proofs.Common.{◌≡◌, ℕ, sym, inl, inr, arith}
 use mathlib.Core.Bool.{true≢false}
 use Rattle.std.specs.Prelude.{Option, Some}
+use Rattle.qc_config.specs.Val.{Number}
 use Rattle.qc_event.specs.declared.event.Kind.{Kind}
 use Rattle.qc_event.specs.declared.event.Kind.TheVariants as kind
 use Rattle.rows_laws.specs.Trails.{x}
@@ -8,7 +9,7 @@ use Rattle.rows_laws.specs.Values.{last_value}
 use Rattle.rows_laws.proofs.goes_by_no_other_value.Goals as goal
 
 abbrev written : ℕ → Option Kind
-written value = Some (kind.Write x value)
+written value = Some (kind.Write x (Number value))
 
 same_written : (first second : ℕ) → written first ≡ written second → first ≡ second
 same_written first second same = cc

@@ -11,7 +11,7 @@ use Rattle.qc_net.specs.Courier.{held_of, link_of}
 use Rattle.qc_net.specs.Plan.{Plan}
 use Rattle.qc_net.specs.Sending.{IsSending, sending}
 use Rattle.qc_desk.specs.Consulting.{HasAsked}
-use Rattle.qc_site.specs.Answers.{HasAnswered}
+use Rattle.qc_desk.specs.Answers.{HasAnswered}
 use Rattle.qc_carry.specs.Access.{Ends, Waits}
 use Rattle.qc_carry.specs.Walk.{Walk}
 use Rattle.qc_carry.proofs.Beginning as beginning

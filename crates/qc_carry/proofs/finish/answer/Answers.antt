@@ -1,7 +1,7 @@
 -- A refusal that came stands in the history.
 use Rattle.std.proofs.Common.{subst}
 use Rattle.qc_event.specs.declared.event.Refusal.TheVariants as refusal
-use Rattle.qc_site.specs.Answers.{HasAnswered}
+use Rattle.qc_desk.specs.Answers.{HasAnswered}
 use Rattle.qc_carry.proofs.Answered.{refusal_stands}
 use Rattle.qc_carry.proofs.finish.answer.Goals as goal
 

@@ -3,7 +3,7 @@ use Rattle.std.proofs.Common.{sym, ap, ◌∙◌, subst}
 use Rattle.std.specs.Prelude.{All, Err}
 use Rattle.std.proofs.lemmas.Result.{err_from_is_err_and}
 use Rattle.qc_net.specs.Courier.{held_of}
-use Rattle.qc_ledger.specs.Entered.{SeesMore}
+use Rattle.qc_desk.specs.Calling.{SeesMore}
 use Rattle.qc_event.specs.Tables.{setting_of}
 use Rattle.qc_desk.specs.Consulting.{HasAsked}
 use Rattle.qc_desk.specs.Known.{IsKnown}

@@ -5,4 +5,4 @@ use Rattle.qc_codec.proofs.spelling.put_tuple.Goals as goal
 
 pub returns-clause-fits : goal.returns-clause-fits
 returns-clause-fits c =
-    on_ok c.put_config.result (λ config some. tuple_fits c.args.copies c.args.tuple.now (omega arith) (omega arith) (omega arith) (config some)) c.put_config.ensures.fits
+    on_ok c.put_config.result (λ config some. tuple_fits c.args.copies c.args.tuple.now (omega arith) c.put_value.ensures.fits (omega arith) (config some)) c.put_config.ensures.fits

@@ -2,7 +2,8 @@ use Rattle.std.proofs.Common.{sym, subst}
 use Rattle.qc_desk.specs.Consulting.{HasAsked}
 use Rattle.qc_desk.specs.Entries.{IsOlder}
 use Rattle.qc_desk.specs.declared.view.View.{View}
-use Rattle.qc_mail.proofs.Replies.{own_answer, full_too, sees}
+use Rattle.qc_desk.proofs.Answered.{full_still}
+use Rattle.qc_mail.proofs.Replies.{own_answer, sees}
 use Rattle.qc_mail.proofs.delivery.deliver.Goals as goal
 
 pub returns-clause-answered : goal.returns-clause-answered
@@ -15,7 +16,7 @@ returns-clause-answered g c =
 pub returns-clause-room : goal.returns-clause-room
 returns-clause-room g c = λ r.
     let e = c.exchange-answer.result in
-    full_too e.note.seen c.show.new.seer.seen (subst (IsOlder e.note.seen) (sym c.show.ensures.same) c.show.ensures.pass.0) c.show.ensures.bounded (e.room r)
+    full_still e.note.seen c.show.new.seer.seen (subst (IsOlder e.note.seen) (sym c.show.ensures.same) c.show.ensures.pass.0) c.show.ensures.bounded (e.room r)
 
 pub returns-clause-seer : goal.returns-clause-seer
 returns-clause-seer g c = sees c.args.seer.now c.note-note.new.pass c.show.new.seer c.note-note.ensures.1 c.show.ensures.seer

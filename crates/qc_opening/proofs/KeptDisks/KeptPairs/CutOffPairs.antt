@@ -22,7 +22,7 @@ use Rattle.qc_opening.proofs.KeptDisks.KeptPairs.WrittenBodies.{same_ledger_base
 use Rattle.qc_pair.specs.Pair.{number_at}
 use Rattle.qc_refine.specs.Pairs.{RestoreInPairs, TellsCopy, TellsLedger, TellsPair, copy_bodies, image_of, kept_in_pairs, ledger_bodies, spare_image}
 use Rattle.qc_refine.specs.Restored.{Kept, restored}
-use Rattle.qc_refine.proofs.Restoring.PairImages.{each_has, some_told, tells_read}
+use Rattle.qc_refine.proofs.Restoring.PairImages.{HasSome, each_has, some_told, tells_read}
 use Rattle.qc_site.specs.Image as grants
 
 -- ONE PAIR
@@ -106,7 +106,7 @@ module _ (table : Table) (images later : List (List ℕ)) (cut : AreCutOffInPair
       (r.bodies (copy + 1)) (r.bodies (table.copies + 1 + (copy + 1))) (r.has (copy + 1)) (r.has (table.copies + 1 + (copy + 1))) (copy_told table)
       (λ number found first rest split. ap₂ (λ (gs : List Grant) (row : List Tuple). (gs, row)) (same_grants number table found first rest split) (ap (tuples_of_base table) (same_base number table found first rest split)))
 
-  read : (place : ℕ) → (bodies : List (List ℕ)) × HasRecords bodies (get_or later place [])
+  read : (place : ℕ) → HasSome later place
   read = each_has table later cut.as_many (some_told _ ledger_alike) (λ copy there. some_told _ (copy_alike copy there))
 
   abbrev bodies : ℕ → List (List ℕ)

@@ -2,6 +2,7 @@
 -- start tuples of the table.
 use Rattle.std.proofs.Common.{◌≡◌, ℕ, ◌+◌, ◌<◌, ◌⊎◌, Bool, true, false, List, [], length, get_or, refl, sym, ap, ◌∙◌, subst, arith}
 use Rattle.std.specs.Prelude.{if◌then◌else◌, map, Option, Some, IfSome, IsSome}
+use Rattle.qc_config.specs.Val.{Datum}
 use Rattle.qc_config.specs.declared.tuple.Tuple.{Tuple}
 use Rattle.qc_event.specs.declared.table.Table.{Table}
 use Rattle.qc_event.specs.History.{Past}
@@ -77,7 +78,7 @@ module _ (table : Table) (images : List (List ℕ)) (records : ℕ → List (Lis
 
 -- the next mounting that is not cut off carries the serial machine's values after the history, and after tops whose commits may
 -- come next
-pub restart : (table : Table) (base : List (List Tuple)) (epoch : ℕ) (past : Past) (images last : List (List ℕ)) (later : List (List (List ℕ))) (values : List ℕ) (records : ℕ → List (List ℕ)) (later_epoch : ℕ) (later_base : List (List Tuple))
+pub restart : (table : Table) (base : List (List Tuple)) (epoch : ℕ) (past : Past) (images last : List (List ℕ)) (later : List (List (List ℕ))) (values : List Datum) (records : ℕ → List (List ℕ)) (later_epoch : ℕ) (later_base : List (List Tuple))
     → StandInPairs table base epoch past images → Legal (setting_of table base) past → IsSound (setting_of table base) values → AreLeftInPairs table images later last
     → MountedInPairs table (λ place. Some (get_or last place [])) records later_epoch later_base → CarryNext table values past later_base
 restart table base epoch past images last later values records later_epoch later_base s legal sound left mounted =

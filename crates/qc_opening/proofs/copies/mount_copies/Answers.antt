@@ -1,11 +1,11 @@
 -- One copy after another.
 use Rattle.std.proofs.Common.{◌∷◌, [], List, length, subst, sym, ap, refl, arith, ◌∙◌}
-use Rattle.std.proofs.lemmas.List.{length-append}
+use Rattle.std.proofs.lemmas.List.{length-append, nil_from_length}
 use Rattle.qc_opening.specs.Mounted.{AreTaken}
 use Rattle.qc_opening.specs.Refusing.{ArePairsLeft}
 use Rattle.qc_opening.specs.Waiting.{waiting_in}
 use Rattle.qc_opening.proofs.Mountings.Disks.{unreached_pairs}
-use Rattle.qc_opening.proofs.Mountings.InTurn.{all_taken, left_all, nil_of, reason_among, taken_more, taken_size}
+use Rattle.qc_opening.proofs.Mountings.InTurn.{all_taken, left_all, reason_among, taken_more, taken_size}
 use Rattle.qc_opening.proofs.copies.mount_copies.Goals as goal
 use Rattle.qc_pair.specs.declared.fault.PairNo.TheVariants.{Memory}
 use Rattle.qc_system.specs.declared.parts.CopyPair.{CopyPair}
@@ -79,14 +79,14 @@ pub returns-clause-none : goal.returns-clause-none
 returns-clause-none g c =
     let kept = c.loop-copy.invariant in
     let size = taken_size c.args.table.now c.args.past.now c.args.epoch c.args.limit (waiting_in c.args.waiting.now) (waiting_in c.loop-copy.waiting) c.loop-copy.copies.items kept.so_far in
-    nil_of (waiting_in c.loop-copy.waiting) (omega (arith, size, c.requires.all, kept.count, c.loop-copy-test.false))
+    nil_from_length (waiting_in c.loop-copy.waiting) (omega (arith, size, c.requires.all, kept.count, c.loop-copy-test.false))
 
 pub returns-clause-copies : goal.returns-clause-copies
 returns-clause-copies g c =
     let kept = c.loop-copy.invariant in
     let size = taken_size c.args.table.now c.args.past.now c.args.epoch c.args.limit (waiting_in c.args.waiting.now) (waiting_in c.loop-copy.waiting) c.loop-copy.copies.items kept.so_far in
     all_taken c.args.table.now c.args.past.now c.args.epoch c.args.limit (waiting_in c.args.waiting.now) (waiting_in c.loop-copy.waiting) c.loop-copy.copies.items kept.so_far
-    (nil_of (waiting_in c.loop-copy.waiting) (omega (arith, size, c.requires.all, kept.count, c.loop-copy-test.false)))
+    (nil_from_length (waiting_in c.loop-copy.waiting) (omega (arith, size, c.requires.all, kept.count, c.loop-copy-test.false)))
 
 pub returns-in-Err-clause-room : goal.returns-in-Err-clause-room
 returns-in-Err-clause-room g c = λ pairs room. c.put_back_all.ensures.room pairs (c.mount_copy.ensures.room pairs (c.loop-copy.invariant.room pairs room))

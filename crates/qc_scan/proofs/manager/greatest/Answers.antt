@@ -1,5 +1,6 @@
 use Rattle.std.proofs.Common.{◌+◌, drop, sym, ap, ◌∙◌, arith}
 use Rattle.std.specs.Prelude.{Option, fold, unwrap_or}
+use Rattle.qc_config.specs.Val.{Number}
 use Rattle.qc_event.specs.History.{asks}
 use Rattle.qc_event.specs.Manager.{Greatest, replies}
 use Rattle.qc_scan.specs.Raised.{raised, replies_to}
@@ -22,7 +23,8 @@ loop-k-preserved g c =
 pub returns : goal.returns
 returns g c =
     let past = g.H.Looks.past c.args.h.now in
-    let none : Greatest = record { version = 0; value = 0 } in
+    let none : Greatest = record { version = 0; value = Number 0 } in
     c.unwrap_or.ensures
+    ∙ ap (λ v. unwrap_or c.loop-k.best (record { version = 0; value = v })) c.number.ensures
     ∙ ap (λ o. unwrap_or o none) (sym (c.loop-k.invariant ∙ fold_all raised past (asks past c.args.m.now) c.loop-k.k c.loop-k.best (omega (arith, c.loop-k-test.false, c.asks-k-end.ensures))))
     ∙ greatest_is (replies past c.args.m.now)

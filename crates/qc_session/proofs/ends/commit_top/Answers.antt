@@ -17,7 +17,7 @@ use Rattle.qc_script.specs.Calls.{Committed, NotCommitted, RefusesCommit}
 use Rattle.qc_session.specs.Acting.{log_no}
 use Rattle.qc_refine.proofs.Restoring.ListedNames.{number_top_fits}
 use Rattle.qc_system.specs.Kept.{HasRefused}
-use Rattle.qc_system.proofs.Listed.{listed_stays}
+use Rattle.qc_desk.proofs.Listed.{listed_stays}
 use Rattle.qc_session.proofs.Committing.{ready_later, ready_seen, top_committed, top_uncommitted}
 use Rattle.qc_session.proofs.Own.{made_so}
 use Rattle.qc_session.proofs.Refused.{ready_refused}

@@ -11,7 +11,8 @@ use Rattle.qc_session.specs.Managing.{HasStarted}
 use Rattle.qc_session.proofs.Going.{went_after, went_both}
 use Rattle.qc_session.proofs.Managing.{all_answers, all_fail, carried_tidy, refused_gave}
 use Rattle.qc_session.proofs.Running.{runs_now}
-use Rattle.qc_session.proofs.Starting.{manages_below, user_nonroot}
+use Rattle.qc_desk.proofs.Begun.{user_nonroot}
+use Rattle.qc_session.proofs.Starting.{manages_below}
 use Rattle.qc_session.proofs.Walks.{carried_walk}
 use Rattle.qc_session.proofs.managers.manage.Goals as goal
 use Rattle.qc_session.proofs.Knowing.{seen_legal}

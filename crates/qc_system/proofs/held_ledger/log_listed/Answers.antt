@@ -18,7 +18,8 @@ use Rattle.qc_desk.specs.Entries.{IsOlder, entries_of}
 use Rattle.qc_desk.proofs.Known.{known_again}
 use Rattle.qc_desk.proofs.Seers.{older_trans}
 use Rattle.qc_system.specs.Kept.{HadNoRoom, Pays, downs}
-use Rattle.qc_system.proofs.Listed.{listed_stays, over_seen, tops_retold}
+use Rattle.qc_desk.proofs.Listed.{listed_stays}
+use Rattle.qc_system.proofs.Listed.{over_seen, tops_retold}
 use Rattle.qc_system.proofs.Paying.{log_pays}
 use Rattle.qc_system.proofs.Room.{idle_place, log_room, room_retold}
 use Rattle.qc_system.proofs.Standing.{ended_still, refused_still}

@@ -7,8 +7,8 @@ use Rattle.qc_trail_codec.proofs.end.put_answer.Goals as goal
 
 pub returns-in_ok-put_byte-in-Value-clause-fits : goal.returns-in_ok-put_byte-in-Value-clause-fits
 returns-in_ok-put_byte-in-Value-clause-fits c =
-    if_ok c.put_long.result (subst (events.answer (format_1 c.args.copies)).fits (sym c.in-Value.is) (value_fits (format_1 c.args.copies) c.in-Value.value (omega arith)))
+    if_ok c.put_value.result (subst (events.answer (format_1 c.args.copies)).fits (sym c.in-Value.is) (value_fits (format_1 c.args.copies) c.in-Value.value c.put_value.ensures.fits))
 
 pub returns-in_ok-put_byte-in-Generation-clause-fits : goal.returns-in_ok-put_byte-in-Generation-clause-fits
 returns-in_ok-put_byte-in-Generation-clause-fits c =
-    if_ok c.put_long-in-Generation.result (subst (events.answer (format_1 c.args.copies)).fits (sym c.in-Generation.is) (generation_fits (format_1 c.args.copies) c.in-Generation.generation (omega arith)))
+    if_ok c.put_long.result (subst (events.answer (format_1 c.args.copies)).fits (sym c.in-Generation.is) (generation_fits (format_1 c.args.copies) c.in-Generation.generation (omega arith)))

@@ -11,4 +11,4 @@ returns-in_ok-push-in-User-2-clause-fits c =
 
 pub returns-in_ok-push-in-Write-2-clause-fits : goal.returns-in_ok-push-in-Write-2-clause-fits
 returns-in_ok-push-in-Write-2-clause-fits c =
-    if_ok c.put_long.result (subst (events.kind (format_1 c.args.copies)).fits (sym c.in-Write.is) (write_fits (format_1 c.args.copies) c.in-Write.rec c.in-Write.value (omega arith) (omega arith)))
+    if_ok c.put_value.result (subst (events.kind (format_1 c.args.copies)).fits (sym c.in-Write.is) (write_fits (format_1 c.args.copies) c.in-Write.rec c.in-Write.value (omega arith) c.put_value.ensures.fits))

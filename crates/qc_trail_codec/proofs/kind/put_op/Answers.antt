@@ -7,7 +7,7 @@ use Rattle.qc_trail_codec.proofs.kind.put_op.Goals as goal
 
 pub returns-in_ok-put_long-in-PutData-clause-fits : goal.returns-in_ok-put_long-in-PutData-clause-fits
 returns-in_ok-put_long-in-PutData-clause-fits c =
-    if_ok c.put_long-in-PutData.result (subst (events.op (format_1 c.args.copies)).fits (sym c.in-PutData.is) (data_fits (format_1 c.args.copies) c.in-PutData.version c.in-PutData.value (omega arith) (omega arith)))
+    if_ok c.put_value.result (subst (events.op (format_1 c.args.copies)).fits (sym c.in-PutData.is) (data_fits (format_1 c.args.copies) c.in-PutData.version c.in-PutData.value (omega arith) c.put_value.ensures.fits))
 
 pub returns-in_ok-put_long-in-PutConfig-clause-fits : goal.returns-in_ok-put_long-in-PutConfig-clause-fits
 returns-in_ok-put_long-in-PutConfig-clause-fits c =

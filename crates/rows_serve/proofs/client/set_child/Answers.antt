@@ -5,7 +5,7 @@ use Rattle.qc_desk.proofs.AskedTops.{on_ok}
 use Rattle.qc_desk.proofs.Seers.{older_trans}
 use Rattle.qc_event.specs.Tables.{setting_of}
 use Rattle.rows_serve.proofs.Children.{later}
-use Rattle.rows_serve.proofs.Commits.{not_root}
+use Rattle.qc_desk.proofs.Begun.{user_nonroot}
 use Rattle.rows_serve.proofs.First.{child_stands, child_begun}
 use Rattle.rows_serve.proofs.client.set_child.Goals as goal
 
@@ -18,7 +18,7 @@ pub set_below-requires-clause-user : goal.set_below-requires-clause-user
 set_below-requires-clause-user g c =
     let user = c.args.request.now.user in
     child_begun g.N.Store.table g.N.Store.base c.requires.over user c.in_ok-child.child c.args.pass.now c.start.new.pass c.in_ok-child.ensures.ok c.known-2.ensures.legal
-    (not_root (setting_of g.N.Store.table g.N.Store.base) c.args.pass.now.seen user c.known.ensures.legal c.requires.stands.begun)
+    (user_nonroot (setting_of g.N.Store.table g.N.Store.base) c.args.pass.now.seen user c.known.ensures.legal c.requires.stands.begun)
 
 pub returns-clause-older : goal.returns-clause-older
 returns-clause-older g c =

@@ -9,14 +9,15 @@ use Rattle.qc_event.proofs.Lawful.{started_some}
 use Rattle.qc_desk.specs.Refusing.{against_commit, against_ready}
 use Rattle.qc_desk.proofs.AskedTops.{entered_later, is_ready_now}
 use Rattle.qc_desk.proofs.Seers.{older_trans}
-use Rattle.rows_serve.proofs.Commits.{not_root, user_commits}
+use Rattle.qc_desk.proofs.Begun.{user_nonroot}
+use Rattle.rows_serve.proofs.Commits.{user_commits}
 use Rattle.rows_serve.proofs.commit.commit.Goals as goal
 
 pub end-requires-clause-may : goal.end-requires-clause-may
 end-requires-clause-may g c =
     let user = c.args.request.now.user in
     user_commits (setting_of g.N.Store.table g.N.Store.base) user c.args.pass.now c.requires.stands.begun
-    (omega (arith, not_root (setting_of g.N.Store.table g.N.Store.base) c.args.pass.now.seen user c.known.ensures.legal c.requires.stands.begun, c.len.ensures.length, c.if-len-ne1.true))
+    (omega (arith, user_nonroot (setting_of g.N.Store.table g.N.Store.base) c.args.pass.now.seen user c.known.ensures.legal c.requires.stands.begun, c.len.ensures.length, c.if-len-ne1.true))
 
 pub ready-requires-clause-started : goal.ready-requires-clause-started
 ready-requires-clause-started g c = (sym c.len.ensures.length ∙ c.if-len-ne1.false, started_some (λ b. IsUser b.kind) (start c.args.pass.now.seen c.args.request.now.user) c.requires.stands.begun)

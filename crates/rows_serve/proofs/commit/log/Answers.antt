@@ -5,7 +5,8 @@ use Rattle.qc_event.specs.History.{Past, is_ready}
 use Rattle.qc_event.specs.declared.event.How.{How}
 use Rattle.qc_desk.specs.declared.view.View.{View}
 use Rattle.qc_ledger.specs.Entered.{MayFinish}
-use Rattle.qc_ledger.proofs.Passes.{may_first, ready_stays}
+use Rattle.qc_desk.proofs.Listed.{ready_stays}
+use Rattle.qc_ledger.proofs.Passes.{may_first}
 use Rattle.qc_desk.proofs.Seers.{older_trans}
 use Rattle.rows_serve.proofs.commit.log.Goals as goal
 

@@ -3,7 +3,7 @@ use Rattle.std.specs.Prelude.{IfSome}
 use Rattle.qc_event.specs.Grants.{grant_with}
 use Rattle.qc_event.specs.declared.event.Ask.{Ask}
 use Rattle.qc_event.specs.Tables.{setting_of}
-use Rattle.qc_site.specs.AtDesk.{IsGranted}
+use Rattle.qc_desk.specs.Answers.{IsGranted}
 use Rattle.qc_site.specs.Calls.{AnswerRests, site_state}
 use Rattle.rows_serve.specs.Requests.{IsFirst, IsPut}
 use Rattle.rows_serve.proofs.Later.{stands_later, of_others, first_of_since, put_of_since}

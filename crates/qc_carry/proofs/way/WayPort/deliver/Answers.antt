@@ -4,7 +4,7 @@ use Rattle.qc_event.specs.Tables.{setting_of}
 use Rattle.qc_event.proofs.Asked.{asked_fits}
 use Rattle.qc_desk.proofs.Consulting.{asked_later, stands}
 use Rattle.qc_desk.proofs.Known.{known_again}
-use Rattle.qc_carry.proofs.Answered.{gave_later}
+use Rattle.qc_desk.proofs.Answered.{gave_later}
 use Rattle.qc_carry.proofs.way.WayPort.deliver.Goals as goal
 
 pub serve-served-requires-clause-copy : goal.serve-served-requires-clause-copy

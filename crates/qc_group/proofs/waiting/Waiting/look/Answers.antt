@@ -2,7 +2,7 @@
 use Rattle.std.proofs.Common.{ap, sym, ◌∙◌}
 use Rattle.qc_event.specs.Tables.{setting_of}
 use Rattle.qc_desk.specs.declared.view.View.{View}
-use Rattle.qc_group.proofs.Listed.{listed_stays, ready_stays}
+use Rattle.qc_desk.proofs.Listed.{listed_stays, ready_stays}
 use Rattle.qc_group.proofs.waiting.Waiting.look.Goals as goal
 
 pub invariant_of-shown : goal.invariant_of-shown

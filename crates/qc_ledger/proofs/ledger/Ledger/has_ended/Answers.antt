@@ -4,7 +4,8 @@ use Rattle.std.specs.Prelude.{is_some, true}
 use Rattle.qc_event.specs.History.{Past, is_ready}
 use Rattle.qc_event.specs.Tables.{setting_of}
 use Rattle.qc_desk.specs.Entries.{entries_of}
-use Rattle.qc_ledger.proofs.Passes.{kept_on, may_first, may_next, ready_stays, shown_kept}
+use Rattle.qc_desk.proofs.Listed.{ready_stays}
+use Rattle.qc_ledger.proofs.Passes.{kept_on, may_first, may_next, shown_kept}
 use Rattle.qc_ledger.proofs.ledger.Ledger.has_ended.Goals as goal
 
 pub invariant_of-self : goal.invariant_of-self

@@ -5,7 +5,8 @@ use Rattle.qc_journal.specs.Journal.{disk_of}
 use Rattle.qc_ledger.specs.Calls.{ledger_state}
 use Rattle.qc_ledger.specs.Shelf.{journal_in}
 use Rattle.qc_ledger.proofs.Calls.{became_last}
-use Rattle.qc_ledger.proofs.Passes.{ready_stays, sees_on}
+use Rattle.qc_desk.proofs.Listed.{ready_stays}
+use Rattle.qc_ledger.proofs.Passes.{sees_on}
 use Rattle.qc_ledger.proofs.ledger.Ledger.log.Goals as goal
 
 pub unable-requires-clause-ready : goal.unable-requires-clause-ready

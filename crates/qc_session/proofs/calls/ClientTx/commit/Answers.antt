@@ -1,7 +1,8 @@
 -- A commit is what its client made.
 use Rattle.qc_event.specs.Tables.{setting_of}
 use Rattle.qc_session.proofs.Calling.{client_now, ended_keeps, for, met_now}
-use Rattle.qc_session.proofs.Starting.{below_top, user_nonroot}
+use Rattle.qc_desk.proofs.Begun.{user_nonroot}
+use Rattle.qc_session.proofs.Starting.{below_top}
 use Rattle.qc_session.proofs.calls.ClientTx.commit.Goals as goal
 use Rattle.qc_session.proofs.Knowing.{seen_legal}
 

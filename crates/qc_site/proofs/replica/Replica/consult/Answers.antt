@@ -6,7 +6,7 @@ use Rattle.qc_event.specs.Tables.{setting_of}
 use Rattle.qc_desk.specs.Consulting.{IsTold}
 use Rattle.qc_desk.specs.declared.consult.Consulted.{Consulted}
 use Rattle.qc_desk.specs.declared.consult.Consulted.TheVariants as consulted
-use Rattle.qc_site.specs.AtDesk.{IsGranted}
+use Rattle.qc_desk.specs.Answers.{IsGranted}
 use Rattle.qc_site.specs.Replica.{IsTableOf, Standing}
 use Rattle.qc_site.proofs.Again.{again_granted, again_is_told, again_of, ask_within, granted_earlier}
 use Rattle.qc_site.proofs.Replicas.{kept_told, leaves_known, looked_none, same_grants, table_at, told_none}

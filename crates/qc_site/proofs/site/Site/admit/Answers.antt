@@ -4,7 +4,8 @@ use Rattle.qc_event.specs.Grants.{grant_with}
 use Rattle.qc_event.specs.Tables.{setting_of}
 use Rattle.qc_journal.specs.Journal.{disk_of}
 use Rattle.qc_desk.specs.declared.view.View.{View}
-use Rattle.qc_site.specs.AtDesk.{hand_entries, IsGranted}
+use Rattle.qc_desk.specs.Answers.{IsGranted}
+use Rattle.qc_site.specs.AtDesk.{hand_entries}
 use Rattle.qc_site.specs.Calls.{empty_handed, site_state, SiteState}
 use Rattle.qc_site.specs.Log.{log_journal}
 use Rattle.qc_site.specs.declared.serve.ServeNo.TheVariants.{Down, Full}

@@ -5,7 +5,8 @@ use Rattle.qc_event.specs.Tables.{setting_of}
 use Rattle.qc_journal.specs.Journal.{disk_of}
 use Rattle.qc_desk.proofs.Consulting.{asked_later}
 use Rattle.qc_ledger.specs.Entered.{AtMost}
-use Rattle.qc_site.specs.AtDesk.{hand_entries, IsGranted}
+use Rattle.qc_desk.specs.Answers.{IsGranted}
+use Rattle.qc_site.specs.AtDesk.{hand_entries}
 use Rattle.qc_site.specs.Calls.{site_state}
 use Rattle.qc_site.specs.Log.{log_journal}
 use Rattle.qc_site.specs.Replica.{Standing}

@@ -14,7 +14,7 @@ use Rattle.qc_event.specs.Wants.{IsWant}
 use Rattle.qc_journal.specs.Journal.{disk_of, limit_of}
 use Rattle.qc_desk.specs.Entries.{IsOlder}
 use Rattle.qc_desk.proofs.NoGrants.{own_grants}
-use Rattle.qc_site.specs.Answers.{HasAnswered}
+use Rattle.qc_desk.specs.Answers.{HasAnswered}
 use Rattle.qc_site.specs.AtDesk.{LeavesKnown}
 use Rattle.qc_site.specs.Calls.{AnswerRests, HasServed, site_state}
 use Rattle.qc_site.specs.Log.{log_journal}
@@ -24,7 +24,8 @@ use Rattle.qc_system.specs.Grown.{LeftAlike}
 use Rattle.qc_system.specs.Kept.{CopyHadNoRoom, NoneStrange, Pays, downs}
 use Rattle.qc_system.proofs.Grown.{disk_in, left_on}
 use Rattle.qc_system.proofs.Paying.{faults_of, serve_pays}
-use Rattle.qc_system.proofs.Standing.{answer_stands, full_still}
+use Rattle.qc_desk.proofs.Answered.{full_still}
+use Rattle.qc_system.proofs.Standing.{answer_stands}
 use Rattle.qc_system.proofs.Unable.{full_for, locks_serve, ok_is, on_ok, room_later, serve_plain, serve_room}
 use Rattle.qc_system.proofs.held.Held.serve.Goals as goal
 

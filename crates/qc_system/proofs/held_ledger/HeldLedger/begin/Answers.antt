@@ -5,7 +5,8 @@ use Rattle.std.specs.Prelude.{not}
 use Rattle.qc_event.specs.Seats.{ledger_seat}
 use Rattle.qc_event.specs.Standing.{HasEnded}
 use Rattle.qc_event.specs.Tables.{setting_of}
-use Rattle.qc_ledger.specs.Entered.{MayFinish, SeesMore}
+use Rattle.qc_desk.specs.Calling.{SeesMore}
+use Rattle.qc_ledger.specs.Entered.{MayFinish}
 use Rattle.qc_ledger.proofs.Passes.{sees_on}
 use Rattle.qc_ledger.specs.Shelf.{journal_in}
 use Rattle.qc_desk.specs.declared.view.View.{View}

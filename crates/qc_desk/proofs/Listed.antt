@@ -1,4 +1,4 @@
--- What is listed of a top stays from when it is ready.
+-- A top that is ready stays so, and what is listed of it stays.
 use Rattle.std.proofs.Common.{◌≡◌, true, [], ◌∷◌, ◌++◌, refl, sym, ap, ◌∙◌, subst}
 use Rattle.std.proofs.lemmas.Bool.{cond-false, false_from_ne_true}
 use Rattle.qc_event.specs.declared.event.Entry.{Entry}
@@ -7,10 +7,10 @@ use Rattle.qc_event.specs.History.{Past, Name, is_ready, ready_in}
 use Rattle.qc_event.specs.Legal.{Legal, MayHappen}
 use Rattle.qc_event.specs.Listed.{aborted_below, listed}
 use Rattle.qc_event.specs.Users.{MayReady}
-use Rattle.qc_desk.specs.Entries.{IsOlder}
 use Rattle.qc_event.proofs.Booleans.{not_both}
 use Rattle.qc_event.proofs.OneEntry.{marking}
 use Rattle.qc_event.proofs.StillTold.{some_stays}
+use Rattle.qc_desk.specs.Entries.{IsOlder}
 
 pub ready_stays : (before now : Past) (top : Name) → IsOlder before now → is_ready before top ≡ true → is_ready now top ≡ true
 ready_stays before now top older ready = subst (λ (p : Past). is_ready p top ≡ true) (sym older.1) (some_stays (λ e. ready_in top e.event) older.0 before ready)

@@ -1,0 +1,6 @@
+use Rattle.std.proofs.Common.{arith}
+use Rattle.qc_codec.proofs.Fits.{number_fits}
+use Rattle.qc_codec.proofs.spelling.put_value.Goals as goal
+
+pub returns-clause-fits : goal.returns-clause-fits
+returns-clause-fits c = number_fits c.args.value.now c.as_number.result c.as_number.ensures (omega arith)
