@@ -3,16 +3,21 @@
 # not built, or its sources changed, it is proved and built first. What that does is told on standard
 # error, so standard output has what the program writes and nothing else.
 top=$(CDPATH='' cd -- "$(dirname -- "$0")" && pwd) || exit 1
-crate=$top/crates/qc_prog
-program=$crate/out/qc_prog
-stamp=$crate/out/qc_prog.sources
-log=$crate/out/qc_prog.log
-lock=$crate/out/qc_prog.lock
 page=$top/viewer/index.html
 usage='usage: qc run [--dir PATH] [--serial] [--trail] < SCRIPT | qc gen N | qc audit < TRAIL'
 usage="$usage | qc view [--dir PATH] [--serial] < SCRIPT"
 
 say() { printf 'qc: %s\n' "$*" >&2; }
+
+# Which crate has the program that is run, with what stands beside it.
+take_program() {
+    name_of_program=$1
+    crate=$top/crates/$1
+    program=$crate/out/$1
+    stamp=$program.sources
+    log=$program.log
+    lock=$program.lock
+}
 
 help() {
     echo "$usage"
@@ -29,6 +34,8 @@ did. The program is proved before it is built: README.md says of what.
   ./qc view < SCRIPT             runs a script, and writes a page that draws what happened in the run,
                                  qc-view-1.html or the next that is free: open it in a browser
   ./qc gen N                     makes a script of the number N, runs it, and writes its last values
+  ./qc turns SEED run < SCRIPT   the same with one at a time, chosen by a seed: threads that can be run again
+  ./qc turns A..B run < SCRIPT   by each seed from A to B: how many reports, and the least seed of each
   ./qc --unproved run < SCRIPT   the same before the first build is done, unproved
   ./qc --unproved run SCRIPT ..  several scripts, each behind a line "== NAME"
   ./qc --help                    this page
@@ -81,6 +88,14 @@ take_place() {
     [ ! "$place" ] && place=$1
 }
 
+# Whether a word is a seed, or two with `..` between them.
+is_seeds() {
+    case $1 in
+    *..*) is_number "${1%%..*}" && is_number "${1#*..}" ;;
+    *) is_number "$1" ;;
+    esac
+}
+
 # Whether the words are a command: `run` or `view` with its options behind it, `gen` and a number, or `audit`. Behind
 # `run` an unproved call may also name scripts, whose number is told here.
 read_words() {
@@ -112,7 +127,7 @@ read_words() {
 
 # The crate of the program and those that it stands on, the lowest first.
 crates() {
-    awk -F: '
+    awk -F: -v program="$name_of_program" '
         /^[a-z]/ { name = $1; sub(/ .*/, "", name); on[name] = $2 }
         function below(name,   part, n, i) {
             if (!(name in on) || name in done) return
@@ -121,7 +136,7 @@ crates() {
             for (i = 1; i <= n; i++) below(part[i])
             print name
         }
-        END { below("qc_prog") }' "$top/crates.txt"
+        END { below(program) }' "$top/crates.txt"
 }
 
 # A checksum of each file that the proof reads.
@@ -221,7 +236,7 @@ prove_all() {
         grep -E "^$name *(:| )" "$top/crates.txt" >>"$stage/crates.txt"
     done
     cp "$top/HANDLES" "$stage/"
-    cd "$stage" && prove "$rt" ci && cp "$stage/crates/qc_prog/out/qc_prog" "$program"
+    cd "$stage" && prove "$rt" ci && cp "$stage/crates/$name_of_program/out/$name_of_program" "$program"
 }
 
 # Over what earlier checks kept. These words are no command, so the new program ends at once with its usage line.
@@ -322,6 +337,7 @@ run_unproved() {
         [ "$trail" ] && set -- "$@" --trail
         [ "$place" ] && set -- "$@" --dir "$(whole_path "$place")"
     fi
+    [ ! "$seeds" ] || set -- "$seeds" "$@"
     if [ "$scripts" -gt 0 ]; then set -- --cases "$room/cases" -- "$@"; else set -- -- "$@"; fi
     (cd "$crate" && "$rt" try "$@") 2>"$room/said"
     status=$?
@@ -361,7 +377,7 @@ tell_cause() {
 }
 
 run_proved() {
-    "$program" "$@"
+    "$program" ${seeds:+"$seeds"} "$@"
 }
 
 # Writes the saved trail into a page, under the first name that is free here, and names it.
@@ -424,13 +440,25 @@ if [ "${1-}" = --unproved ]; then
     unproved=yes
     shift
 fi
+take_program qc_prog
+seeds=
+if [ "${1-}" = turns ]; then
+    is_seeds "${2-}" || refuse_words
+    seeds=$2
+    shift 2
+    take_program qc_turns_prog
+fi
 case ${1-} in
 -h | --help)
-    [ $# -eq 1 ] || refuse_words
+    [ $# -eq 1 ] && [ ! "$seeds" ] || refuse_words
     help
     ;;
 *)
     read_words "$@" || refuse_words
+    # Behind more seeds than one stands a run on no folder, whose reports are counted.
+    case $seeds in
+    *..*) [ "$1" = run ] && [ ! "$place" ] || refuse_words ;;
+    esac
     run "$@"
     ;;
 esac
