@@ -6,7 +6,7 @@ use Rattle.std.proofs.lemmas.Bool.{and_parts, leb-true}
 use Rattle.std.proofs.lemmas.List.{length-append}
 use Rattle.std.proofs.lemmas.List.Elements.{All-head, All-tail}
 use Rattle.qc_codec.specs.Bodies.{label, row, table, making, made}
-use Rattle.qc_codec.specs.Fields.{config, datum, format_1, half, long}
+use Rattle.qc_codec.specs.Fields.{config, datum, format_1, half, long, number_datum}
 use Rattle.qc_codec.specs.Ledger.{made_for}
 use Rattle.qc_codec.proofs.Fits.{config_votes}
 use Rattle.qc_event.specs.declared.table.Row.{Row}
@@ -16,14 +16,14 @@ most_between : (least most n : ℕ) → (nat_le least n && nat_le n most) ≡ tr
 most_between least most n is = leb-true n most (and_parts (nat_le least n) (nat_le n most) is).1
 
 row_short : (copies : ℕ) (r : Row) → copies ≤ 16 → (row (format_1 copies)).fits r → length ((row (format_1 copies)).spell r) ≤ 46
-unfolding row label datum long half config
+unfolding row label datum number_datum long half config
 row_short copies r few fits =
     let name = most_between 1 16 (length r.name) fits.0.0.0.0.0.1 in
     let votes : length r.config.votes ≡ copies = config_votes (format_1 copies) r.config fits.0.1.1 in
     omega (
       arith,
-      length-append (label.spell r.name) (datum.spell r.start ++ (config (format_1 copies)).spell r.config),
-      length-append (datum.spell r.start) ((config (format_1 copies)).spell r.config),
+      length-append (label.spell r.name) ((datum 1).spell r.start ++ (config (format_1 copies)).spell r.config),
+      length-append ((datum 1).spell r.start) ((config (format_1 copies)).spell r.config),
       length-append r.config.votes (half.spell r.config.read ++ half.spell r.config.write),
     )
 
@@ -41,7 +41,3 @@ front_short t fits =
     let many = most_between 1 64 (length t.records) fits.0.0.1.0.0.1 in
     let rows = rows_short t.copies t.records copies fits.0.0.1.0.1.1 in
     omega arith
-
-pub made_fits : (t : Table) → (table 1).fits t → made.fits (made_for 0 t)
-unfolding made making
-made_fits t fits = ((omega arith, fits), tt)

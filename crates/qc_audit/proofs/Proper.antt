@@ -55,7 +55,7 @@ is_table t fits =
 
 made_table : (who : ℕ) (t : Table) → made.fits (made_for who t) → (table 1).fits t
 unfolding made making
-made_table who t fits = fits.0.1
+made_table who t fits = fits.0.1.1
 
 -- what a base that fits has
 record IsBase (b : List (List Tuple)) : Type 0 where

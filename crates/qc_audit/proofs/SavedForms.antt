@@ -1,5 +1,5 @@
 -- What is saved of a legal history has the saved form.
-use Rattle.std.proofs.Common.{◌≡◌, List, length, refl, ◌∙◌}
+use Rattle.std.proofs.Common.{◌≡◌, List, arith, length, refl, ◌∙◌}
 use Rattle.std.proofs.lemmas.List.{length-map}
 use Rattle.qc_codec.specs.Bodies.{made, table}
 use Rattle.qc_codec.specs.Fields.{word}
@@ -12,7 +12,8 @@ use Rattle.qc_event.specs.declared.table.Table.{Table}
 use Rattle.qc_trail_codec.specs.Trail as saved
 use Rattle.qc_trail_codec.specs.declared.record.SavedTrail.{SavedTrail}
 use Rattle.qc_audit.specs.Saved.{HasSizes, IsSaved, saved_text}
-use Rattle.qc_audit.proofs.Fronts.{front_short, made_fits}
+use Rattle.qc_codec.proofs.Fits.{made_proper}
+use Rattle.qc_audit.proofs.Fronts.{front_short}
 
 -- a proper base of a table has its sizes
 pub sizes : (t : Table) (base : List (List Tuple)) → length base ≡ t.copies → IsProper (setting_of t base) → HasSizes t base
@@ -27,7 +28,7 @@ is_saved t trail spelled fits has = record {
   front = made.spell (made_for 0 t);
   back = (saved.trail 1).spell trail;
   parts = record { short = front_short t spelled; joined = refl };
-  made = (refl, made_fits t spelled);
+  made = (refl, made_proper 0 t (omega arith) spelled);
   rest = (refl, fits);
   sizes = has;
 }

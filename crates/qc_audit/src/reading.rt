@@ -51,7 +51,7 @@ fn table_in(alloc: Global, bytes: &[u8]) -> Result<Table, CodecNo>
     ensures bad { IsErrOf result Bad → (table : tables.Table) →
         Spells body.made bytes.now (made_for 0 table) → ⊥ }
 {
-    let Made { who, table } = read_made(alloc, bytes)?;
+    let Made { who, table, .. } = read_made(alloc, bytes)?;
     if who != LEDGER_DISK {
         return Err(CodecNo::Bad);
     }

@@ -10,7 +10,7 @@ ghost use Rattle.qc_event.specs.Tables.{setting_of};
 ghost use Rattle.qc_audit.specs.Saved.{IsSaved, saved_text};
 
 use crate::reading::LEDGER_DISK;
-use qc_codec::{Made, copy_table, put_word, write_made};
+use qc_codec::{FORMAT, Made, copy_table, put_word, write_made};
 use qc_event::{Base, Table};
 use qc_trail::Trail;
 use qc_trail_codec::{legal_histories_can_be_saved, write_trail};
@@ -24,6 +24,7 @@ fn front(alloc: Global, table: &Table) -> Result<Vec<u8>, AllocError>
 {
     let table = copy_table(alloc, table)?;
     let made = Made {
+        format: FORMAT,
         who: LEDGER_DISK,
         table,
     };

@@ -6,13 +6,14 @@ use Rattle.qc_codec.specs.Base.{base_in, copy_base, ledger_base}
 use Rattle.qc_codec.specs.Bodies as body
 use Rattle.qc_codec.specs.Copy.{grant_form}
 use Rattle.qc_codec.specs.Form.{Form, all_of}
-use Rattle.qc_codec.specs.Ledger.{readings}
+use Rattle.qc_codec.specs.Ledger.{made_for, readings}
 use Rattle.qc_codec.specs.declared.record.BaseRecord.{BaseRecord}
 use Rattle.qc_codec.specs.declared.record.LedgerRecord.{LedgerRecord}
 use Rattle.qc_codec.specs.declared.record.LedgerRecord.TheVariants as ledger_record
 use Rattle.qc_codec.specs.declared.record.Made.{Made}
 use Rattle.qc_codec.proofs.Bodies.{exact_made}
 use Rattle.qc_codec.proofs.Exact.{all_again}
+use Rattle.qc_codec.proofs.Fits.{making_format}
 use Rattle.qc_event.specs.declared.event.Grant.{Grant}
 use Rattle.qc_event.specs.declared.table.Table.{Table}
 
@@ -41,6 +42,11 @@ record_no_base table (ledger_record.Epoch e) = refl
 record_no_base table (ledger_record.Top [] aborted) = refl
 record_no_base table (ledger_record.Top (n ∷ []) aborted) = refl
 record_no_base table (ledger_record.Top (n ∷ k ∷ rest) aborted) = refl
+
+-- a made record tells no more than its disk and table
+pub made_is : (made : Made) → body.made.fits made → made ≡ made_for made.who made.table
+unfolding body.made
+made_is made fits = ap (λ (n : ℕ). record { format = n; who = made.who; table = made.table }) (making_format made fits)
 
 -- a made record of the ledger's is one of its records
 pub made_spelled : (made : Made) → body.ledger.spell (ledger_record.Made made) ≡ body.made.spell made

@@ -1,12 +1,12 @@
 -- Names, configurations and tuples are exact.
 use mathlib.Core.Bool.{true≢false}
-use Rattle.std.proofs.Common.{◌≡◌, ℕ, ◌-◌, ◌<◌, List, [], ◌∷◌, length, refl, sym, ap, arith}
-use Rattle.std.specs.Prelude.{nat_lt}
+use Rattle.std.proofs.Common.{◌≡◌, ℕ, ◌-◌, ◌<◌, Bool, true, false, List, [], ◌∷◌, length, refl, sym, ap, arith}
+use Rattle.std.specs.Prelude.{◌==◌, nat_lt}
 use Rattle.std.proofs.lemmas.Bool.{and_parts, ltb-true}
 use Rattle.qc_config.specs.Val.{Datum, Number, number_of}
 use Rattle.qc_event.specs.History.{Name}
 use Rattle.qc_codec.specs.Form.{Form, Any, byte, run, pair, only, times}
-use Rattle.qc_codec.specs.Fields.{Layout, half, long, top_number, some_number, is_top, is_some_number, is_length, name_of, parts_of_name, has_no_fault, name, datum, config, tuple, word}
+use Rattle.qc_codec.specs.Fields.{Layout, half, long, top_number, some_number, is_top, is_some_number, is_length, name_of, parts_of_name, has_no_fault, name, number_datum, datum_by, datum, config, tuple, word}
 use Rattle.qc_codec.proofs.Exact.{IsExact, exact_byte, exact_half, exact_word, exact_long, exact_run, exact_pair, exact_as, exact_only, exact_marked, exact_times}
 
 pub exact_top_number : IsExact top_number
@@ -43,9 +43,17 @@ exact_name least = exact_as name_of parts_of_name Any _ (exact_parts least) back
 number_back : (v : Datum) → Number (number_of v) ≡ v
 number_back (Number n) = refl
 
-pub exact_datum : IsExact datum
+exact_number : IsExact number_datum
+unfolding number_datum
+exact_number = exact_as Number number_of Any long exact_long (λ v fits any. number_back v) (λ n fits. (refl, tt))
+
+exact_datum_by : (b : Bool) → IsExact (datum_by b)
+exact_datum_by true = exact_number
+exact_datum_by false = exact_marked 0 number_datum exact_number
+
+pub exact_datum : (format : ℕ) → IsExact (datum format)
 unfolding datum
-exact_datum = exact_as Number number_of Any long exact_long (λ v fits any. number_back v) (λ n fits. (refl, tt))
+exact_datum format = exact_datum_by (format == 1)
 
 pub exact_config : (layout : Layout) → IsExact (config layout)
 unfolding config
@@ -58,5 +66,5 @@ pub exact_tuple : (layout : Layout) → IsExact (tuple layout)
 unfolding tuple
 exact_tuple layout =
     exact_as _ _ Any _
-    (exact_pair long _ exact_long (λ version. exact_pair datum _ exact_datum (λ value. exact_pair long _ exact_long (λ generation. exact_config layout))))
+    (exact_pair long _ exact_long (λ version. exact_pair (datum layout.format) _ (exact_datum layout.format) (λ value. exact_pair long _ exact_long (λ generation. exact_config layout))))
     (λ t fits any. refl) (λ p fits. (refl, tt))

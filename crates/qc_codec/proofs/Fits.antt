@@ -1,9 +1,9 @@
 -- What fits a form has the lengths that its writer wants, and what is in the range of its types fits.
 use mathlib.Core.Bool.{true≢false}
-use Rattle.std.proofs.Common.{◌≡◌, ℕ, suc, ◌/◌, ◌%◌, ◌^◌, ◌<◌, ◌≤◌, true, List, [], ◌∷◌, length, refl, sym, subst, ap, arith}
-use Rattle.std.specs.Prelude.{Option, None, Some, nat_le, nat_lt, is_none, slice_index}
+use Rattle.std.proofs.Common.{◌≡◌, ℕ, suc, ◌/◌, ◌%◌, ◌^◌, ◌<◌, ◌≤◌, Bool, true, false, List, [], ◌∷◌, length, refl, sym, subst, ap, arith}
+use Rattle.std.specs.Prelude.{◌==◌, Option, None, Some, nat_le, nat_lt, is_none, slice_index}
 use Rattle.std.specs.List.{All}
-use Rattle.std.proofs.lemmas.Bool.{and_parts, and_from, leb-true, ltb-true, le-leb, lt-ltb}
+use Rattle.std.proofs.lemmas.Bool.{and_parts, and_from, eqb-true, leb-true, ltb-true, le-leb, lt-ltb}
 use Rattle.std.proofs.lemmas.List.Elements.{All-nil, All-cons, All-head, All-tail, All-from_get_or}
 use Rattle.qc_names.specs.Name.{longest}
 use Rattle.qc_config.proofs.Faults.{legal_unless_fault}
@@ -22,8 +22,9 @@ use Rattle.qc_codec.specs.declared.record.BaseRecord.{BaseRecord}
 use Rattle.qc_codec.specs.declared.record.Made.{Made}
 use Rattle.qc_codec.specs.declared.record.LedgerRecord.TheVariants as ledger_record
 use Rattle.qc_codec.specs.Form.{byte, only}
-use Rattle.qc_codec.specs.Fields.{Layout, format_1, half, word, long, name, datum, config, tuple, is_length, is_top, some_number, IsNumbered}
-use Rattle.qc_codec.specs.Bodies.{HasLengths, is_between, is_code, code_of, label, row, table, making, granted, grant, folded, base, below, top, ledger}
+use Rattle.qc_codec.specs.Fields.{Layout, layout, half, word, long, name, number_datum, datum_by, datum, config, tuple, is_length, is_top, some_number, IsNumbered}
+use Rattle.qc_codec.specs.Ledger.{made_for}
+use Rattle.qc_codec.specs.Bodies.{HasLengths, is_between, is_code, code_of, label, row, table, making, made, granted, grant, folded, base, below, top, ledger}
 
 pub config_votes : (layout : Layout) (c : Voting) → (config layout).fits c → length c.votes ≡ layout.copies
 unfolding config
@@ -76,17 +77,35 @@ pub record IsSized (t : Table) : Type 0 where
   pub records : length t.records < 256
   pub rows : All (HasLengths t.copies) t.records
 
-pub table_sized : (t : Table) → (table 1).fits t → IsSized t
+pub table_sized : (format : ℕ) (t : Table) → (table format).fits t → IsSized t
 unfolding table
-table_sized t fits = record {
+table_sized format t fits = record {
   copies = most t.copies fits.0.0.0.1;
   records = fits.0.0.1.0.0.0;
-  rows = λ k d lt. row_lengths (format_1 t.copies) _ (fits.0.0.1.0.1.1 k d lt);
+  rows = λ k d lt. row_lengths (layout t.copies format) _ (fits.0.0.1.0.1.1 k d lt);
 }
 
 pub making_sized : (m : Made) → making.fits m → IsSized m.table
 unfolding making
-making_sized m fits = table_sized m.table fits.0.1
+making_sized m fits = table_sized m.format m.table fits.0.1.1
+
+pub made_sized : (m : Made) → made.fits m → IsSized m.table
+unfolding made
+made_sized m fits = making_sized m fits
+
+-- a made record is of the first format
+pub making_format : (m : Made) → making.fits m → m.format ≡ 1
+unfolding making
+making_format m fits = eqb-true m.format 1 fits.0.0.1
+
+pub making_table : (m : Made) → making.fits m → (table 1).fits m.table
+unfolding making
+making_table m fits = subst (λ format. (table format).fits m.table) (making_format m fits) fits.0.1.1
+
+-- a proper table has a made record
+pub made_proper : (disk : ℕ) (t : Table) → disk < 256 → (table 1).fits t → made.fits (made_for disk t)
+unfolding made making
+made_proper disk t small fits = (((omega arith, refl), (small, fits)), tt)
 
 -- GRANTS
 
@@ -188,25 +207,33 @@ pub record IsConfigInRange (c : Voting) : Type 0 where
   pub read : c.read < 2 ^ 16
   pub write : c.write < 2 ^ 16
 
-pub config_fits : (copies : ℕ) (c : Voting) → length c.votes ≡ copies → fault c.votes c.read c.write ≡ None → IsConfigInRange c → (config (format_1 copies)).fits c
+pub config_fits : (l : Layout) (c : Voting) → length c.votes ≡ l.copies → fault c.votes c.read c.write ≡ None → IsConfigInRange c → (config l).fits c
 unfolding config half
-config_fits copies c same none range = ((((same, All-from_get_or (λ v. v < 256) c.votes 0 range.votes), (range.read, range.write)), tt), ap is_none none)
+config_fits l c same none range = ((((same, All-from_get_or (λ v. v < 256) c.votes 0 range.votes), (range.read, range.write)), tt), ap is_none none)
 
--- a value whose number eight bytes hold has a spelling
-pub number_fits : (v : Datum) (n : ℕ) → n ≡ number_of v → n < 2 ^ 64 → datum.fits v
-unfolding datum long
-number_fits v n is small = (subst (λ k. k < 2 ^ 64) is small, tt)
+-- a value whose number eight bytes hold has a spelling, in each format
+pub number_datum_fits : (v : Datum) (n : ℕ) → n ≡ number_of v → n < 2 ^ 64 → number_datum.fits v
+unfolding number_datum long
+number_datum_fits v n is small = (subst (λ k. k < 2 ^ 64) is small, tt)
 
-pub tuple_fits : (copies : ℕ) (t : Tuple) → t.version < 2 ^ 64 → datum.fits t.value → t.generation < 2 ^ 64 → (config (format_1 copies)).fits t.config → (tuple (format_1 copies)).fits t
+pub number_fits : (format : ℕ) (v : Datum) (n : ℕ) → n ≡ number_of v → n < 2 ^ 64 → (datum format).fits v
+unfolding datum
+number_fits format v n is small = by (format == 1)
+  where
+    by : (b : Bool) → (datum_by b).fits v
+    by true = number_datum_fits v n is small
+    by false = number_datum_fits v n is small
+
+pub tuple_fits : (l : Layout) (t : Tuple) → t.version < 2 ^ 64 → (datum l.format).fits t.value → t.generation < 2 ^ 64 → (config l).fits t.config → (tuple l).fits t
 unfolding tuple long
-tuple_fits copies t version value generation fits = ((version, (value, (generation, fits))), tt)
+tuple_fits l t version value generation fits = ((version, (value, (generation, fits))), tt)
 
 pub code_fits : (op : Op) → (only is_code byte).fits (code_of op)
 code_fits Get = (omega arith, refl)
 code_fits (PutData version value) = (omega arith, refl)
 code_fits (PutConfig generation config) = (omega arith, refl)
 
-pub granted_fits : (least copies : ℕ) (g : Grant) → (name least).fits g.access → g.rec < 256 → (tuple (format_1 copies)).fits g.tuple → Sets g.op g.tuple
-    → (granted least (format_1 copies)).fits g
+pub granted_fits : (least : ℕ) (l : Layout) (g : Grant) → (name least).fits g.access → g.rec < 256 → (tuple l).fits g.tuple → Sets g.op g.tuple
+    → (granted least l).fits g
 unfolding granted
-granted_fits least copies g named small fits sets = ((named, (small, (code_fits g.op, fits))), sets)
+granted_fits least l g named small fits sets = ((named, (small, (code_fits g.op, fits))), sets)

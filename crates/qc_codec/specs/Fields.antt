@@ -1,5 +1,5 @@
 -- Fields of bodies: numbers, names, configurations and tuples.
-use Rattle.std.specs.Prelude.{ℕ, ◌-◌, ◌^◌, ◌/◌, ◌%◌, ◌<◌, ◌&&◌, Bool, nat_le, nat_lt, is_none, List, [], ◌∷◌, length}
+use Rattle.std.specs.Prelude.{ℕ, ◌-◌, ◌^◌, ◌/◌, ◌%◌, ◌<◌, ◌==◌, ◌&&◌, Bool, true, false, nat_le, nat_lt, is_none, List, [], ◌∷◌, length}
 use Rattle.std.specs.Int.{w16, w32, w64}
 use Rattle.std.specs.List.{All}
 use Rattle.qc_names.specs.Name.{longest}
@@ -9,14 +9,18 @@ use Rattle.qc_config.specs.declared.tuple.Tuple.{Tuple}
 use Rattle.qc_event.specs.History.{Name}
 use Rattle.qc_codec.specs.Form.{Form, Any, byte, number, run, pair, as_another, only, marked, times}
 
--- For how many copies configurations are, and the format. There is one format today.
+-- For how many copies configurations are, and the format, 1 or 2.
 pub record Layout : Type 0 where
   pub copies : ℕ
   pub format : ℕ
 
+-- for so many copies in a format
+abbrev pub layout : ℕ → ℕ → Layout
+layout copies format = record { copies = copies; format = format }
+
 -- for so many copies in format 1
 abbrev pub format_1 : ℕ → Layout
-format_1 copies = record { copies = copies; format = 1 }
+format_1 copies = layout copies 1
 
 unfoldable pub half : Form ℕ
 half = number w16 (2 ^ 16)
@@ -67,9 +71,18 @@ IsNumbered (top ∷ rest) = (0 < top / 2 ^ 32) × (0 < top % 2 ^ 32) × All (λ 
 
 -- VALUES, CONFIGURATIONS AND TUPLES
 
--- a value, which is a number in eight bytes
-unfoldable pub datum : Form Datum
-datum = as_another Number number_of Any long
+-- a value that is a number, in eight bytes
+unfoldable pub number_datum : Form Datum
+number_datum = as_another Number number_of Any long
+
+-- a value, by whether the format is the first: it is a number there, and behind it a byte tells what it is
+abbrev pub datum_by : Bool → Form Datum
+datum_by true = number_datum
+datum_by false = marked 0 number_datum
+
+-- a value of a format
+unfoldable pub datum : ℕ → Form Datum
+datum format = datum_by (format == 1)
 
 abbrev pub has_no_fault : Voting → Bool
 has_no_fault c = is_none (fault c.votes c.read c.write)
@@ -83,4 +96,4 @@ config layout = only has_no_fault
 unfoldable pub tuple : Layout → Form Tuple
 tuple layout = as_another (λ p. record { version = p.0; value = p.1.0; generation = p.1.1.0; config = p.1.1.1 })
     (λ (t : Tuple). (t.version, (t.value, (t.generation, t.config)))) Any
-    (pair long (λ version. pair datum (λ value. pair long (λ generation. config layout))))
+    (pair long (λ version. pair (datum layout.format) (λ value. pair long (λ generation. config layout))))

@@ -23,7 +23,7 @@ use Rattle.qc_codec.specs.declared.record.Made.{Made}
 
 -- how the disk of a number was made, for a store of this table
 abbrev pub made_for : ℕ → Table → Made
-made_for number table = record { who = number; table = table }
+made_for number table = record { format = 1; who = number; table = table }
 
 -- the ledger's record of a top
 abbrev pub record_of_top : Logged → LedgerRecord

@@ -4,7 +4,7 @@ ghost use Rattle.std.specs.List.{All};
 ghost use Rattle.qc_config.specs.declared.tuple.Tuple.{Tuple};
 ghost use Rattle.qc_codec.specs.Bodies as body;
 ghost use Rattle.qc_codec.specs.Fields as field;
-ghost use Rattle.qc_codec.specs.Fields.{format_1};
+ghost use Rattle.qc_codec.specs.Fields.{layout};
 ghost use Rattle.qc_codec.specs.Gives.{Reads, ReadsEach, ReadsAll, Spells, SpellsNone, Puts, PutsEach};
 ghost use Rattle.qc_codec.specs.declared.fault.CodecNo.TheVariants.{Bad};
 
@@ -32,13 +32,19 @@ impl Cursor<'_> {
     }
 
     // So many tuples.
-    fn tuples(&mut self, alloc: Global, copies: u8, count: u8) -> Result<Tuples, CodecNo>
+    fn tuples(
+        &mut self,
+        alloc: Global,
+        copies: u8,
+        format: u8,
+        count: u8,
+    ) -> Result<Tuples, CodecNo>
         requires { copies ≤ 16 }
-        ensures { ReadsEach (field.tuple (format_1 copies)) count result self.old self.new }
+        ensures { ReadsEach (field.tuple (layout copies format)) count result self.old self.new }
     {
         let mut tuples = Vec::new(alloc);
         for _ in 0..count {
-            let tuple = self.tuple(copies)?;
+            let tuple = self.tuple(copies, format)?;
             tuples.push(tuple)?;
         }
         Ok(Tuples::new(tuples))
@@ -46,13 +52,19 @@ impl Cursor<'_> {
 
     // What stands behind the first byte of a base record.
     #[tactic(auto, unfolding(crate::specs::Bodies::folded))]
-    fn folded(&mut self, alloc: Global, copies: u8, records: u8) -> Result<BaseRecord, CodecNo>
+    fn folded(
+        &mut self,
+        alloc: Global,
+        copies: u8,
+        format: u8,
+        records: u8,
+    ) -> Result<BaseRecord, CodecNo>
         requires { copies ≤ 16 }
-        ensures { Reads (body.folded (format_1 copies) records) result self.old self.new }
+        ensures { Reads (body.folded (layout copies format) records) result self.old self.new }
     {
         let number = self.fold()?;
         let epoch = self.some_number()?;
-        let tuples = self.tuples(alloc, copies, records)?;
+        let tuples = self.tuples(alloc, copies, format, records)?;
         Ok(BaseRecord {
             number,
             epoch,
@@ -62,61 +74,74 @@ impl Cursor<'_> {
 }
 
 #[tactic(auto, unfolding(crate::specs::Bodies::base))]
-fn all(alloc: Global, bytes: &[u8], copies: u8, records: u8) -> Result<BaseRecord, CodecNo>
+fn all(
+    alloc: Global,
+    bytes: &[u8],
+    copies: u8,
+    records: u8,
+    format: u8,
+) -> Result<BaseRecord, CodecNo>
     requires { copies ≤ 16 }
-    ensures { ReadsAll (body.base (format_1 copies) records) result bytes.now }
+    ensures { ReadsAll (body.base (layout copies format) records) result bytes.now }
 {
     let mut cursor = Cursor { rest: bytes };
     if cursor.byte()? != 4 {
         return Err(CodecNo::Bad);
     }
-    let base = cursor.folded(alloc, copies, records)?;
+    let base = cursor.folded(alloc, copies, format, records)?;
     if !cursor.rest.is_empty() {
         return Err(CodecNo::Bad);
     }
     Ok(base)
 }
 
-/// The base record that the bytes are, of a copy of so many records in a store of so many copies. A ledger's is read
-/// with no records.
+/// The base record that the bytes are, of a copy of so many records in a store of so many copies, in a format. A
+/// ledger's is read with no records.
 pub fn read_base(
     alloc: Global,
     bytes: &[u8],
     copies: u8,
     records: u8,
+    format: u8,
 ) -> Result<BaseRecord, CodecNo>
     requires { copies ≤ 16 }
-    ensures exact { ReadsAll (body.base (format_1 copies) records) result bytes.now }
-    ensures found { IfOk result (Spells (body.base (format_1 copies) records) bytes.now) }
-    ensures bad { IsErrOf result Bad → SpellsNone (body.base (format_1 copies) records) bytes.now }
+    ensures exact { ReadsAll (body.base (layout copies format) records) result bytes.now }
+    ensures found { IfOk result (Spells (body.base (layout copies format) records) bytes.now) }
+    ensures bad { IsErrOf result Bad
+        → SpellsNone (body.base (layout copies format) records) bytes.now }
 {
-    all(alloc, bytes, copies, records)
+    all(alloc, bytes, copies, records, format)
 }
 
 // Tuples, each with a configuration for so many copies.
-fn put_tuples(out: &mut Vec<u8>, copies: u8, tuples: &[Tuple]) -> Result<(), AllocError>
+fn put_tuples(out: &mut Vec<u8>, copies: u8, format: u8, tuples: &[Tuple]) -> Result<(), AllocError>
     requires copies { copies ≤ 16 }
     requires same { All (λ (t : Tuple). length t.config.votes ≡ copies) tuples.now }
-    ensures { PutsEach (field.tuple (format_1 copies)) tuples.now result
+    ensures { PutsEach (field.tuple (layout copies format)) tuples.now result
         out.old.items out.new.items }
 {
     for tuple in tuples {
-        put_tuple(out, copies, tuple)?;
+        put_tuple(out, copies, format, tuple)?;
     }
     Ok(())
 }
 
-/// The bytes of a base record, of a store of so many copies.
+/// The bytes of a base record, of a store of so many copies in a format.
 #[tactic(auto, unfolding(crate::specs::Bodies::base, crate::specs::Bodies::folded))]
-pub fn write_base(alloc: Global, base: &BaseRecord, copies: u8) -> Result<Vec<u8>, AllocError>
+pub fn write_base(
+    alloc: Global,
+    base: &BaseRecord,
+    copies: u8,
+    format: u8,
+) -> Result<Vec<u8>, AllocError>
     requires copies { copies ≤ 16 }
-    requires proper { (body.base (format_1 copies) (length base.now.tuples)).fits base.now }
-    ensures { IfOk result (λ bytes. Spells (body.base (format_1 copies) (length base.now.tuples))
-        bytes.items base.now) }
+    requires proper { (body.base (layout copies format) (length base.now.tuples)).fits base.now }
+    ensures { IfOk result (λ bytes. Spells
+        (body.base (layout copies format) (length base.now.tuples)) bytes.items base.now) }
 {
     let mut out = vec![in alloc; 4]?;
     put_long(&mut out, base.number)?;
     put_word(&mut out, base.epoch)?;
-    put_tuples(&mut out, copies, base.tuples.as_slice())?;
+    put_tuples(&mut out, copies, format, base.tuples.as_slice())?;
     Ok(out)
 }

@@ -4,7 +4,7 @@ ghost use Rattle.qc_names.specs.Name.{longest};
 ghost use Rattle.qc_codec.specs.Form.{byte, times_taken};
 ghost use Rattle.qc_codec.specs.Lists.{continued};
 ghost use Rattle.qc_codec.specs.Fields as field;
-ghost use Rattle.qc_codec.specs.Fields.{format_1};
+ghost use Rattle.qc_codec.specs.Fields.{layout};
 ghost use Rattle.qc_codec.specs.Gives.{Takes, Reads};
 ghost use Rattle.qc_codec.specs.declared.fault.CodecNo.TheVariants.{Bad};
 
@@ -134,20 +134,35 @@ impl<'a> Cursor<'a> {
         self.steps(&Name::top(top), count - 1)
     }
 
-    /// A value.
-    #[tactic(auto, unfolding(crate::specs::Fields::datum))]
-    pub fn value(&mut self) -> Result<Val, CodecNo>
-        ensures taken { Reads field.datum result self.old self.new }
+    // A value that is a number.
+    #[tactic(auto, unfolding(crate::specs::Fields::number_datum))]
+    fn number(&mut self) -> Result<Val, CodecNo>
+        ensures taken { Reads field.number_datum result self.old self.new }
         ensures only_bad { IfErr result (λ e. e ≡ Bad) }
     {
         Ok(Val::number(self.long()?))
     }
 
+    /// A value of a format.
+    #[tactic(auto, unfolding(crate::specs::Fields::datum))]
+    pub fn value(&mut self, format: u8) -> Result<Val, CodecNo>
+        ensures taken { Reads (field.datum format) result self.old self.new }
+        ensures only_bad { IfErr result (λ e. e ≡ Bad) }
+    {
+        if format == 1 {
+            return self.number();
+        }
+        match self.byte()? {
+            0 => self.number(),
+            _ => Err(CodecNo::Bad),
+        }
+    }
+
     /// A legal configuration for so many copies.
     #[tactic(auto, unfolding(crate::specs::Fields::config))]
-    pub fn config(&mut self, copies: u8) -> Result<Config, CodecNo>
+    pub fn config(&mut self, copies: u8, format: u8) -> Result<Config, CodecNo>
         requires { copies ≤ 16 }
-        ensures taken { Reads (field.config (format_1 copies)) result self.old self.new }
+        ensures taken { Reads (field.config (layout copies format)) result self.old self.new }
         ensures only_bad { IfErr result (λ e. e ≡ Bad) }
     {
         let count = self.byte()?;
@@ -166,15 +181,15 @@ impl<'a> Cursor<'a> {
 
     /// A tuple, with a legal configuration for so many copies.
     #[tactic(auto, unfolding(crate::specs::Fields::tuple))]
-    pub fn tuple(&mut self, copies: u8) -> Result<Tuple, CodecNo>
+    pub fn tuple(&mut self, copies: u8, format: u8) -> Result<Tuple, CodecNo>
         requires { copies ≤ 16 }
-        ensures taken { Reads (field.tuple (format_1 copies)) result self.old self.new }
+        ensures taken { Reads (field.tuple (layout copies format)) result self.old self.new }
         ensures only_bad { IfErr result (λ e. e ≡ Bad) }
     {
         let version = self.long()?;
-        let value = self.value()?;
+        let value = self.value(format)?;
         let generation = self.long()?;
-        let config = self.config(copies)?;
+        let config = self.config(copies, format)?;
         Ok(Tuple {
             version,
             value,

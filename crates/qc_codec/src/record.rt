@@ -5,9 +5,10 @@ use qc_config::Tuple;
 use qc_event::{Name, Table};
 use std::marker::Model;
 
-/// The first record of a journal: the number of its disk, and the table of its store.
+/// The first record of a journal: its format, the number of its disk, and the table of its store.
 #[derive(Debug, Drop)]
 pub struct Made {
+    pub format: u8,
     pub who: u8,
     pub table: Table,
 }

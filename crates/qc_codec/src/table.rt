@@ -4,7 +4,7 @@ ghost use Rattle.std.specs.Char.{is_ascii_alphanumeric};
 ghost use Rattle.std.specs.List.{All, list_all, list_any};
 ghost use Rattle.std.specs.Str.{bytes_eq};
 ghost use Rattle.qc_codec.specs.Bodies as body;
-ghost use Rattle.qc_codec.specs.Fields.{format_1};
+ghost use Rattle.qc_codec.specs.Fields.{layout};
 ghost use Rattle.qc_codec.specs.Gives.{Reads, ReadsEach, ReadsAll, Spells, SpellsNone, Puts, PutsEach};
 ghost use Rattle.qc_codec.specs.declared.fault.CodecNo.TheVariants.{Bad};
 
@@ -23,6 +23,9 @@ const RECORDS: u8 = 64;
 
 /// The most bytes of a record's name.
 const LETTERS: u8 = 16;
+
+/// The format in which journals are made.
+pub const FORMAT: u8 = 1;
 
 // Whether all bytes are letters and digits.
 fn is_plain(text: &[u8]) -> bool
@@ -81,13 +84,13 @@ impl Cursor<'_> {
     }
 
     #[tactic(auto, unfolding(crate::specs::Bodies::row))]
-    fn row(&mut self, alloc: Global, copies: u8) -> Result<Row, CodecNo>
+    fn row(&mut self, alloc: Global, copies: u8, format: u8) -> Result<Row, CodecNo>
         requires { copies ≤ 16 }
-        ensures { Reads (body.row (format_1 copies)) result self.old self.new }
+        ensures { Reads (body.row (layout copies format)) result self.old self.new }
     {
         let name = self.label(alloc)?;
-        let start = self.value()?;
-        let config = self.config(copies)?;
+        let start = self.value(format)?;
+        let config = self.config(copies, format)?;
         Ok(Row {
             name,
             start,
@@ -96,21 +99,21 @@ impl Cursor<'_> {
     }
 
     // So many rows.
-    fn rows(&mut self, alloc: Global, copies: u8, count: u8) -> Result<Rows, CodecNo>
+    fn rows(&mut self, alloc: Global, copies: u8, format: u8, count: u8) -> Result<Rows, CodecNo>
         requires { copies ≤ 16 }
-        ensures { ReadsEach (body.row (format_1 copies)) count result self.old self.new }
+        ensures { ReadsEach (body.row (layout copies format)) count result self.old self.new }
     {
         let mut rows = Vec::new(alloc);
         for _ in 0..count {
-            let row = self.row(alloc, copies)?;
+            let row = self.row(alloc, copies, format)?;
             rows.push(row)?;
         }
         Ok(Rows::new(rows))
     }
 
     #[tactic(auto, unfolding(crate::specs::Bodies::table))]
-    fn table(&mut self, alloc: Global) -> Result<Table, CodecNo>
-        ensures { Reads (body.table 1) result self.old self.new }
+    fn table(&mut self, alloc: Global, format: u8) -> Result<Table, CodecNo>
+        ensures { Reads (body.table format) result self.old self.new }
     {
         let copies = self.byte()?;
         if copies == 0 || copies > COPIES {
@@ -120,7 +123,7 @@ impl Cursor<'_> {
         if count == 0 || count > RECORDS {
             return Err(CodecNo::Bad);
         }
-        let records = self.rows(alloc, copies, count)?;
+        let records = self.rows(alloc, copies, format, count)?;
         if !are_distinct(records.as_slice()) {
             return Err(CodecNo::Bad);
         }
@@ -132,12 +135,13 @@ impl Cursor<'_> {
     pub(crate) fn making(&mut self, alloc: Global) -> Result<Made, CodecNo>
         ensures { Reads body.making result self.old self.new }
     {
-        if self.byte()? != 1 {
+        let format = self.byte()?;
+        if format != FORMAT {
             return Err(CodecNo::Bad);
         }
         let who = self.byte()?;
-        let table = self.table(alloc)?;
-        Ok(Made { who, table })
+        let table = self.table(alloc, format)?;
+        Ok(Made { format, who, table })
     }
 }
 
@@ -176,23 +180,24 @@ fn put_label(out: &mut Vec<u8>, label: &Label) -> Result<(), AllocError>
 }
 
 #[tactic(auto, unfolding(crate::specs::Bodies::row))]
-fn put_row(out: &mut Vec<u8>, copies: u8, row: &Row) -> Result<(), AllocError>
+fn put_row(out: &mut Vec<u8>, copies: u8, format: u8, row: &Row) -> Result<(), AllocError>
     requires copies { copies ≤ 16 }
     requires lengths { body.HasLengths copies row.now }
-    ensures { Puts (body.row (format_1 copies)) row.now result out.old.items out.new.items }
+    ensures { Puts (body.row (layout copies format)) row.now result out.old.items out.new.items }
 {
     put_label(out, &row.name)?;
-    put_value(out, &row.start)?;
-    put_config(out, copies, &row.config)
+    put_value(out, format, &row.start)?;
+    put_config(out, copies, format, &row.config)
 }
 
-fn put_rows(out: &mut Vec<u8>, copies: u8, rows: &[Row]) -> Result<(), AllocError>
+fn put_rows(out: &mut Vec<u8>, copies: u8, format: u8, rows: &[Row]) -> Result<(), AllocError>
     requires copies { copies ≤ 16 }
     requires lengths { All (body.HasLengths copies) rows.now }
-    ensures { PutsEach (body.row (format_1 copies)) rows.now result out.old.items out.new.items }
+    ensures { PutsEach (body.row (layout copies format)) rows.now result
+        out.old.items out.new.items }
 {
     for row in rows {
-        put_row(out, copies, row)?;
+        put_row(out, copies, format, row)?;
     }
     Ok(())
 }
@@ -204,11 +209,11 @@ pub(crate) fn put_making(out: &mut Vec<u8>, made: &Made) -> Result<(), AllocErro
     ensures { Puts body.making made.now result out.old.items out.new.items }
 {
     let rows = made.table.records.as_slice();
-    out.push(1)?;
+    out.push(made.format)?;
     out.push(made.who)?;
     out.push(made.table.copies)?;
     out.push(rows.len() as u8)?;
-    put_rows(out, made.table.copies, rows)
+    put_rows(out, made.table.copies, made.format, rows)
 }
 
 /// The bytes of a made record.

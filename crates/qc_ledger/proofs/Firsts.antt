@@ -18,10 +18,10 @@ use Rattle.qc_codec.specs.declared.record.BaseRecord.{BaseRecord}
 use Rattle.qc_codec.specs.declared.record.Made.{Made}
 use Rattle.qc_codec.specs.declared.record.LedgerRecord.{LedgerRecord}
 use Rattle.qc_codec.specs.declared.record.LedgerRecord.TheVariants as ledger_record
-use Rattle.qc_codec.proofs.Bases.{made_spelled}
+use Rattle.qc_codec.proofs.Bases.{made_is, made_spelled}
 use Rattle.qc_codec.proofs.Bodies.{exact_ledger, exact_made, made_fits_ledger}
 use Rattle.qc_codec.proofs.Exact.{all_again}
-use Rattle.qc_codec.proofs.Fits.{IsSized, making_sized}
+use Rattle.qc_codec.proofs.Fits.{made_fits}
 use Rattle.qc_codec.proofs.Order.{each_none, each_push}
 use Rattle.qc_event.specs.declared.short.Short.TheVariants.{Memory, Room}
 use Rattle.qc_journal.specs.Image.{bodies_of}
@@ -38,16 +38,21 @@ use Rattle.qc_ledger.proofs.Told.{base_front, base_no_record, base_read, by_stan
 -- HOW THE LEDGER WAS MADE
 
 -- a made record is read from its body
-pub made_again : (m : Made) → body.made.fits m → all_of body.ledger (made_body m.who m.table) ≡ Some (ledger_record.Made m)
-made_again m fits = all_again body.ledger exact_ledger (ledger_record.Made m) (made_fits_ledger m fits)
+pub made_again : (m : Made) → body.made.fits m → all_of body.ledger (made_body m.who m.table) ≡ Some (ledger_record.Made (made_for m.who m.table))
+made_again m fits =
+    let own = made_for m.who m.table in
+    all_again body.ledger exact_ledger (ledger_record.Made own) (made_fits_ledger own (subst body.made.fits (made_is m fits) fits))
 
 -- and as one of a disk
-pub made_alone : (m : Made) → body.made.fits m → all_of body.made (made_body m.who m.table) ≡ Some m
-made_alone m fits = ap (all_of body.made) (made_spelled m) ∙ all_again body.made exact_made m fits
+pub made_alone : (m : Made) → body.made.fits m → all_of body.made (made_body m.who m.table) ≡ Some (made_for m.who m.table)
+made_alone m fits =
+    let own = made_for m.who m.table in
+    ap (all_of body.made) (made_spelled own) ∙ all_again body.made exact_made own (subst body.made.fits (made_is m fits) fits)
 
-pub made_sized : (m : Made) → body.made.fits m → IsSized m.table
+-- a record that says how a ledger was made says no more than its disk and table
+pub made_alike : (m : Made) → body.ledger.fits (ledger_record.Made m) → m ≡ made_for m.who m.table
 unfolding body.made
-made_sized m fits = making_sized m fits
+made_alike m fits = made_is m (made_fits m fits)
 
 -- FAULTS
 
@@ -213,8 +218,3 @@ module _ (disk : ℕ) where
   pub no_disk : {T : Type 0} (r : Result T LedgerNo) (fault : LedgerNo) (P : ImageFault → Type 0) → IsErrAnd r (λ e. e ≡ fault) → IsOfBytes disk P fault → IsErrOf r Disk → ⊥
   no_disk (Ok x) fault P same is of = absurd cc
   no_disk (Err e) fault P same is of = let one : e ≡ Disk = cc in subst (IsOfBytes disk P) (sym same ∙ one) is
-
--- a proper table has a made record
-pub made_proper : (disk : ℕ) (table : Table) → disk < 256 → (body.table 1).fits table → body.made.fits (made_for disk table)
-unfolding body.made body.making
-made_proper disk table small fits = ((small, fits), tt)

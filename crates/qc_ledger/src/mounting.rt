@@ -17,7 +17,7 @@ ghost use Rattle.qc_pair.specs.declared.kind.Kind.TheVariants as kind;
 use crate::book::Book;
 use crate::fault::{LedgerNo, mount_no, pair_no};
 use crate::reading::past_of;
-use qc_codec::{LedgerRecord, Made, Past, copy_table, write_ledger, write_made};
+use qc_codec::{FORMAT, LedgerRecord, Made, Past, copy_table, write_ledger, write_made};
 use qc_disk::Disk;
 use qc_event::{Short, Table};
 use qc_journal::{Body, Fault, Journal};
@@ -121,6 +121,7 @@ pub(crate) fn made_of(alloc: Global, who: u8, table: &Table) -> Result<(Made, Bo
     ensures memory { IfErr result (λ no. no ≡ LedgerNo.Short Short.Memory) }
 {
     let made = Made {
+        format: FORMAT,
         who,
         table: copy_table(alloc, table)?,
     };

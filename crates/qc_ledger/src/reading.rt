@@ -4,7 +4,7 @@ ghost use Rattle.std.specs.Bool.{OnTrue};
 ghost use Rattle.qc_codec.specs.Bodies as body;
 ghost use Rattle.qc_codec.specs.Fields.{format_1};
 ghost use Rattle.qc_codec.specs.Form.{all_of};
-ghost use Rattle.qc_codec.specs.Ledger.{past_in, MayFollow, MayStand, AreInOrder};
+ghost use Rattle.qc_codec.specs.Ledger.{made_for, past_in, MayFollow, MayStand, AreInOrder};
 ghost use Rattle.qc_journal.specs.Image.{bodies_of};
 ghost use Rattle.qc_ledger.specs.Image.{made_body, LAST_EPOCH, AreLedgers, IsLedgerFault};
 ghost use Rattle.qc_ledger.specs.Reading.{AreRead, IsFirstBad, IsLaterBad, IsMadeOver};
@@ -13,7 +13,7 @@ ghost use Rattle.qc_ledger.specs.Seen.{told_by, HasNumbers, with_base, with_body
 
 use crate::fault::{LedgerNo, image_no};
 use crate::seen::Seen;
-use qc_codec::{CodecNo, ImageFault, LedgerRecord, Made, Past, read_base, read_ledger};
+use qc_codec::{CodecNo, FORMAT, ImageFault, LedgerRecord, Made, Past, read_base, read_ledger};
 use qc_event::Short;
 use qc_journal::Body;
 use std::alloc::Global;
@@ -22,8 +22,10 @@ use std::alloc::Global;
 fn check_made(alloc: Global, first: &[u8], made: Made, spelled: &[u8]) -> Result<(), LedgerNo>
     requires fits { body.made.fits made }
     requires spelled { spelled.now ≡ made_body made.who made.table }
-    ensures made { OnOk result (all_of body.ledger first.now ≡ Some (LedgerRecord.Made made)) }
-    ensures over { OnOk result (all_of body.made first.now ≡ Some made) }
+    ensures made { OnOk result (all_of body.ledger first.now
+        ≡ Some (LedgerRecord.Made (made_for made.who made.table))) }
+    ensures over { OnOk result (all_of body.made first.now
+        ≡ Some (made_for made.who made.table)) }
     ensures fault { IfErr result (IsOfBytes made.who (IsFirstBad made.who made.table first.now)) }
 {
     if first == spelled {
@@ -51,7 +53,7 @@ fn take_base(alloc: Global, seen: &mut Seen, bytes: &[u8], copies: u8) -> Result
     ensures numbers { OnOk result (HasNumbers seen.new) }
     ensures memory { IfErr result (λ no. no ≡ LedgerNo.Short Short.Memory) }
 {
-    match read_base(alloc, bytes, copies, 0) {
+    match read_base(alloc, bytes, copies, 0, FORMAT) {
         Ok(base) => {
             seen.take_base(base.epoch);
             Ok(true)

@@ -1,9 +1,8 @@
 -- A base of numbers in range fits its form.
-use Rattle.std.proofs.Common.{◌≡◌, ℕ, ◌<◌, ◌≤◌, ◌^◌, true, length, refl, arith}
+use Rattle.std.proofs.Common.{◌≡◌, ◌<◌, ◌≤◌, ◌^◌, true, length, refl, arith}
 use Rattle.std.specs.Prelude.{nat_lt}
 use Rattle.std.specs.List.{All}
 use Rattle.std.proofs.lemmas.Bool.{and_from, le-leb, lt-ltb}
-use Rattle.qc_config.specs.declared.tuple.Tuple.{Tuple}
 use Rattle.qc_codec.specs.Bodies as body
 use Rattle.qc_codec.specs.Fields.{Layout, long, tuple, word}
 use Rattle.qc_codec.specs.declared.record.BaseRecord.{BaseRecord}

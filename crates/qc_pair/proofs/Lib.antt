@@ -1,4 +1,3 @@
 pub mod Bases
 mod Folds
-mod Fronts
 pub mod Halves

@@ -9,7 +9,9 @@ ghost use Rattle.qc_pair.specs.declared.fault.PairNo.TheVariants.{Memory};
 
 use crate::fault::{PairNo, grammar_no};
 use crate::kind::Kind;
-use qc_codec::{BaseRecord, CodecNo, LedgerRecord, read_base, read_grant, read_ledger, read_made};
+use qc_codec::{
+    BaseRecord, CodecNo, FORMAT, LedgerRecord, read_base, read_grant, read_ledger, read_made,
+};
 use qc_event::Table;
 use qc_journal::Body;
 use std::alloc::Global;
@@ -21,10 +23,10 @@ fn base_of(alloc: Global, kind: Kind, table: &Table, bytes: &[u8]) -> Result<Bas
     ensures { ReadsAll (base_form kind table.now) result bytes.now }
 {
     match kind {
-        Kind::Ledger => read_base(alloc, bytes, table.copies, 0),
+        Kind::Ledger => read_base(alloc, bytes, table.copies, 0, FORMAT),
         Kind::Copy => {
             let records = table.records.as_slice().len() as u8;
-            read_base(alloc, bytes, table.copies, records)
+            read_base(alloc, bytes, table.copies, records, FORMAT)
         }
     }
 }
@@ -41,7 +43,7 @@ fn is_record(alloc: Global, kind: Kind, table: &Table, bytes: &[u8]) -> Result<b
             Ok(_) => Ok(true),
             Err(CodecNo::Memory) => Err(PairNo::Memory),
         },
-        Kind::Copy => Ok(read_grant(bytes, table.copies).is_ok()),
+        Kind::Copy => Ok(read_grant(bytes, table.copies, FORMAT).is_ok()),
     }
 }
 

@@ -7,7 +7,7 @@ use Rattle.std.proofs.lemmas.List.Elements.{All-cons, All-nil}
 use Rattle.qc_config.specs.Val.{Number}
 use Rattle.qc_codec.specs.Base.{copy_base, is_swapped, ledger_base}
 use Rattle.qc_codec.specs.Bodies as body
-use Rattle.qc_codec.specs.Fields.{config, datum, half, long, tuple, word}
+use Rattle.qc_codec.specs.Fields.{config, datum, half, long, number_datum, tuple, word}
 use Rattle.qc_codec.specs.Ledger.{made_for}
 use Rattle.qc_codec.specs.declared.record.BaseRecord.{BaseRecord}
 use Rattle.qc_codec.specs.declared.record.LedgerRecord.TheVariants as ledger_record
@@ -63,7 +63,7 @@ has bodies short = inr (length (records_row bodies), record { gate = 0; rest = [
 -- THEY ARE SHORT
 
 pub made_short : (disk : ℕ) → length (made disk) ≡ 21
-unfolding body.made body.making body.table body.row body.label config datum half long
+unfolding body.made body.making body.table body.row body.label config datum number_datum half long
 made_short disk = refl
 
 epoch_short : length (body.ledger.spell (ledger_record.Epoch 1)) ≡ 5
@@ -75,7 +75,7 @@ unfolding body.base body.folded long word
 ledger_base_short = refl
 
 copy_base_short : length ((copy_base table).spell (folded_to (first_tuple one_row ∷ []))) ≡ 43
-unfolding body.base body.folded tuple config datum half long word
+unfolding body.base body.folded tuple config datum number_datum half long word
 copy_base_short = refl
 
 both_short : (disk : ℕ) (second : List ℕ) → length second < 100 → All IsShort (made disk ∷ second ∷ [])
@@ -86,25 +86,25 @@ both_short disk second few =
 -- THEY FIT
 
 made_fits : (disk : ℕ) → disk < 256 → body.made.fits (made_for disk table)
-unfolding body.made body.making body.table body.row body.label config datum half long
-made_fits disk few = ((few, search rules), tt)
+unfolding body.made body.making body.table body.row body.label config datum number_datum half long
+made_fits disk few = (((omega arith, refl), (few, search rules)), tt)
 
 ledger_base_fits : (ledger_base table).fits (folded_to [])
 unfolding body.base body.folded long word
 ledger_base_fits = search rules
 
 copy_base_fits : (copy_base table).fits (folded_to (first_tuple one_row ∷ []))
-unfolding body.base body.folded tuple config datum half long word
+unfolding body.base body.folded tuple config datum number_datum half long word
 copy_base_fits = search rules
 
 -- THE SPARES ARE ACTIVE
 
 ledger_swapped : is_swapped ledger_base ledger_own ledger_spare ≡ true
-unfolding body.made body.making body.table body.row body.label body.ledger body.base body.folded tuple config datum half long word
+unfolding body.made body.making body.table body.row body.label body.ledger body.base body.folded tuple config datum number_datum half long word
 ledger_swapped = refl
 
 copy_swapped : is_swapped copy_base copy_own copy_spare ≡ true
-unfolding body.made body.making body.table body.row body.label body.base body.folded tuple config datum half long word
+unfolding body.made body.making body.table body.row body.label body.base body.folded tuple config datum number_datum half long word
 copy_swapped = refl
 
 -- THEY STAND

@@ -36,9 +36,9 @@ each_spelled (rec ∷ recs) all =
     let both = and_parts (is_label (made_row rec).name) (list_all (λ r. is_label (made_row r).name) recs) all in
     All-cons IsSpelledAlone (made_row rec) (map made_row recs) (record { name = label_of (made_row rec).name both.0; config = faultless }) (each_spelled recs both.1)
 
-each_small : (recs : List ℕ) → All (λ (r : Row). datum.fits r.start) (map made_row recs)
-each_small [] = All-nil (λ (r : Row). datum.fits r.start)
-each_small (rec ∷ recs) = All-cons (λ (r : Row). datum.fits r.start) (made_row rec) (map made_row recs) (number_fits (Number 0) 0 refl (omega arith)) (each_small recs)
+each_small : (recs : List ℕ) → All (λ (r : Row). (datum 1).fits r.start) (map made_row recs)
+each_small [] = All-nil (λ (r : Row). (datum 1).fits r.start)
+each_small (rec ∷ recs) = All-cons (λ (r : Row). (datum 1).fits r.start) (made_row rec) (map made_row recs) (number_fits 1 (Number 0) 0 refl (omega arith)) (each_small recs)
 
 labels : list_all (λ rec. is_label (made_row rec).name) (range_with_len 0 8) ≡ true
 unfolding is_label digits

@@ -11,14 +11,14 @@ use qc_script::Script;
 
 // The start value of a row is a number of 64 bits.
 fn is_long(row: &Row)
-    ensures { datum.fits row.now.start }
+    ensures { (datum 1).fits row.now.start }
 {
     let _start = row.start.as_number();
 }
 
 // So is each row's.
 fn are_long(rows: &[Row])
-    ensures { All (λ row. datum.fits row.start) rows.now }
+    ensures { All (λ row. (datum 1).fits row.start) rows.now }
 {
     for row in rows {
         is_long(row);

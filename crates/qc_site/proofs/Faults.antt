@@ -22,7 +22,7 @@ use Rattle.qc_site.specs.declared.fault.SiteNo.TheVariants.{Disk, Image, Strange
 
 -- a table has at most 16 copies
 pub few_copies : (table : Table) → (body.table 1).fits table → table.copies ≤ 16
-few_copies table fits = (table_sized table fits).copies
+few_copies table fits = (table_sized 1 table fits).copies
 
 module _ (disk : ℕ) where
   -- HANDED ON

@@ -22,7 +22,7 @@ use Rattle.qc_codec.specs.Fields.{format_1, datum, tuple}
 -- the numbers of a tuple are in range
 pub record IsTupleInRange (t : Tuple) : Type 0 where
   pub version : t.version < 2 ^ 64
-  pub value : datum.fits t.value
+  pub value : (datum 1).fits t.value
   pub generation : t.generation < 2 ^ 64
   pub config : IsConfigInRange t.config
 
@@ -47,5 +47,5 @@ module _ (setting : Setting) (past : Past) (proper : IsProper setting) (legal : 
       let same : t ≡ seen setting.base past copy k = ap (λ row. get_or row k no_tuple) is ∙ get_or-map-range_with_len (seen setting.base past copy) 0 (length start) k k no_tuple within (omega arith) in
       let there : IsConfigFor (length setting.base) t.config = subst (λ (x : Tuple). IsConfigFor (length setting.base) x.config) (sym same) (config_held k within) in
       let numbers = range k no_tuple lt in
-      tuple_fits (length setting.base) t numbers.version numbers.value numbers.generation
-      (config_fits (length setting.base) t.config there.for_copies (legal_faultless t.config there.legal) numbers.config))
+      tuple_fits (format_1 (length setting.base)) t numbers.version numbers.value numbers.generation
+      (config_fits (format_1 (length setting.base)) t.config there.for_copies (legal_faultless t.config there.legal) numbers.config))

@@ -3,7 +3,7 @@ ghost use Rattle.std.specs.Prelude.{◌≡◌, ◌≤◌, ◌++◌, option_to_li
 ghost use Rattle.qc_journal.specs.Image.{bodies_of};
 ghost use Rattle.qc_site.specs.Back.{AreGrants, IsFirstApart, IsFirstUnread, IsWithHand};
 
-use qc_codec::read_grant;
+use qc_codec::{FORMAT, read_grant};
 use qc_event::{Grant, Op};
 use qc_journal::Body;
 use qc_names::lists::append;
@@ -39,7 +39,7 @@ pub(crate) fn grants_in(
 {
     let mut grants = Vec::new(alloc);
     for index in 0..bodies.len() {
-        match read_grant(bodies[index].as_slice(), copies) {
+        match read_grant(bodies[index].as_slice(), copies, FORMAT) {
             Ok(grant) => {
                 is_op(&grant.op);
                 append(&mut grants, grant)?;

@@ -25,7 +25,7 @@ use crate::fault::{SiteNo, mount_no, pair_no};
 use crate::mounted::Mounted;
 use crate::reading::grants_of;
 use crate::start::restored_beginning;
-use qc_codec::{Made, Past, copy_table, write_made};
+use qc_codec::{FORMAT, Made, Past, copy_table, write_made};
 use qc_disk::Disk;
 use qc_event::Table;
 use qc_journal::{Body, Journal};
@@ -39,6 +39,7 @@ pub(crate) fn made_of(alloc: Global, who: u8, table: &Table) -> Result<Body, All
     ensures { IfOk result (λ made. made.items ≡ made_body who table.now) }
 {
     let made = Made {
+        format: FORMAT,
         who,
         table: copy_table(alloc, table)?,
     };

@@ -16,7 +16,7 @@ ghost use Rattle.qc_site.specs.Refusing.{IsOfBytes};
 use crate::fault::{SiteNo, image_no};
 use crate::granted::Granted;
 use qc_codec::{
-    BaseRecord, CodecNo, ImageFault, Past, copy_table, read_base, read_grant, read_made,
+    BaseRecord, CodecNo, FORMAT, ImageFault, Past, copy_table, read_base, read_grant, read_made,
 };
 use qc_event::{Grant, Short, Table};
 use qc_journal::Body;
@@ -80,7 +80,7 @@ fn read_second(
         return Ok(None);
     }
     let records = table.records.as_slice().len() as u8;
-    match read_base(alloc, bodies[1].as_slice(), table.copies, records) {
+    match read_base(alloc, bodies[1].as_slice(), table.copies, records, FORMAT) {
         Ok(base) if base.epoch <= past.epoch => Ok(Some(base)),
         Ok(_) => Err(image_no(who, ImageFault::Grammar { index: 1 })),
         Err(CodecNo::Bad) => Ok(None),
@@ -122,7 +122,7 @@ fn take_next(
         ++ readings (grant_form table.now) (bytes.now ∷ []))) }
     ensures accesses { IfOk result (λ taken. OnTrue taken (HasAccesses granted.new)) }
 {
-    match read_grant(bytes, table.copies) {
+    match read_grant(bytes, table.copies, FORMAT) {
         Ok(grant) => granted.take(table, past, base, grant),
         Err(_) => Ok(false),
     }

@@ -53,7 +53,7 @@ unfolding op
 exact_op layout =
     exact_choose code_of _
     (tagged_just code_of Get _
-    (tagged_variant code_of 1 put_data data_of _ _ (exact_pair long _ exact_long (λ version. exact_datum)) (λ p. refl) data_back (λ p. refl)
+    (tagged_variant code_of 1 put_data data_of _ _ (exact_pair long _ exact_long (λ version. exact_datum layout.format)) (λ p. refl) data_back (λ p. refl)
     (tagged_variant code_of 2 put_config config_of _ _ (exact_pair long _ exact_long (λ generation. exact_config layout)) (λ p. refl) config_back (λ p. refl)
     (tagged_nothing code_of))))
 
@@ -81,7 +81,7 @@ exact_kind layout =
     exact_choose kind_tag _
     (tagged_variant kind_tag 0 user user_of _ _ (exact_pair byte _ exact_byte (λ n. exact_word)) (λ p. refl) user_back (λ p. refl)
     (tagged_variant kind_tag 1 Read read_of _ _ exact_byte (λ p. refl) read_back (λ p. refl)
-    (tagged_variant kind_tag 2 write write_of _ _ (exact_pair byte _ exact_byte (λ rec. exact_datum)) (λ p. refl) write_back (λ p. refl)
+    (tagged_variant kind_tag 2 write write_of _ _ (exact_pair byte _ exact_byte (λ rec. exact_datum layout.format)) (λ p. refl) write_back (λ p. refl)
     (tagged_variant kind_tag 3 reconf reconf_of _ _ (exact_pair byte _ exact_byte (λ rec. exact_config layout)) (λ p. refl) reconf_back (λ p. refl)
     (tagged_just kind_tag Access _
     (tagged_nothing kind_tag))))))
@@ -105,7 +105,7 @@ unfolding answer
 exact_answer layout =
     exact_choose answer_tag _
     (tagged_just answer_tag Nothing _
-    (tagged_variant answer_tag 1 Value value_of _ _ exact_datum (λ n. refl) value_back (λ n. refl)
+    (tagged_variant answer_tag 1 Value value_of _ _ (exact_datum layout.format) (λ n. refl) value_back (λ n. refl)
     (tagged_variant answer_tag 2 Generation generation_of _ _ exact_long (λ n. refl) generation_back (λ n. refl)
     (tagged_variant answer_tag 3 Reply reply_of _ _ (exact_tuple layout) (λ t. refl) reply_back (λ t. refl)
     (tagged_nothing answer_tag)))))

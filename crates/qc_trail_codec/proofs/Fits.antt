@@ -63,7 +63,7 @@ lack_fits l marks places =
 
 -- OPERATIONS, KINDS, ANSWERS AND REASONS WITH NUMBERS OF MORE THAN ONE BYTE
 
-pub data_fits : (layout : Layout) (version : ℕ) (value : Datum) → version < 2 ^ 64 → datum.fits value → (op layout).fits (PutData version value)
+pub data_fits : (layout : Layout) (version : ℕ) (value : Datum) → version < 2 ^ 64 → (datum layout.format).fits value → (op layout).fits (PutData version value)
 unfolding op long
 data_fits layout version value a b = (a, b)
 
@@ -75,11 +75,11 @@ pub user_fits : (layout : Layout) (session body : ℕ) → session < 256 → bod
 unfolding kind word
 user_fits layout session body a b = (a, b)
 
-pub write_fits : (layout : Layout) (rec : ℕ) (value : Datum) → rec < 256 → datum.fits value → (kind layout).fits (Write rec value)
+pub write_fits : (layout : Layout) (rec : ℕ) (value : Datum) → rec < 256 → (datum layout.format).fits value → (kind layout).fits (Write rec value)
 unfolding kind long
 write_fits layout rec value a b = (a, b)
 
-pub value_fits : (layout : Layout) (value : Datum) → datum.fits value → (answer layout).fits (Value value)
+pub value_fits : (layout : Layout) (value : Datum) → (datum layout.format).fits value → (answer layout).fits (Value value)
 unfolding answer long
 value_fits layout value a = a
 

@@ -47,7 +47,7 @@ put_config p = PutConfig p.0 p.1
 unfoldable pub op : Layout → Form Op
 op layout = choose code_of
     (under 0 (just Get)
-    (under 1 (variant put_data data_of (pair long (λ version. datum)))
+    (under 1 (variant put_data data_of (pair long (λ version. datum layout.format)))
     (under 2 (variant put_config config_of (pair long (λ generation. config layout)))
     nothing)))
 
@@ -89,7 +89,7 @@ unfoldable pub kind : Layout → Form Kind
 kind layout = choose kind_tag
     (under 0 (variant user user_of (pair byte (λ n. word)))
     (under 1 (variant Read read_of byte)
-    (under 2 (variant write write_of (pair byte (λ rec. datum)))
+    (under 2 (variant write write_of (pair byte (λ rec. datum layout.format)))
     (under 3 (variant reconf reconf_of (pair byte (λ rec. config layout)))
     (under 4 (just Access)
     nothing)))))
@@ -117,7 +117,7 @@ reply_of _ = None
 unfoldable pub answer : Layout → Form Answer
 answer layout = choose answer_tag
     (under 0 (just Nothing)
-    (under 1 (variant Value value_of datum)
+    (under 1 (variant Value value_of (datum layout.format))
     (under 2 (variant Generation generation_of long)
     (under 3 (variant Reply reply_of (tuple layout))
     nothing))))

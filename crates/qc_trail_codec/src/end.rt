@@ -7,7 +7,7 @@ ghost use Rattle.qc_trail_codec.specs.Saving.{CanEndBeSaved, IsAnswerFor, IsNumb
 
 use crate::kind::put_byte;
 use crate::reason::{lack, put_lack};
-use qc_codec::{CodecNo, Cursor, put_long, put_name, put_tuple, put_value};
+use qc_codec::{CodecNo, Cursor, FORMAT, put_long, put_name, put_tuple, put_value};
 use qc_event::{Answer, Cause, How};
 use std::alloc::AllocError;
 
@@ -18,9 +18,9 @@ fn answer(cursor: &mut Cursor<'_>, copies: u8) -> Result<Answer, CodecNo>
 {
     match cursor.byte()? {
         0 => Ok(Answer::Nothing),
-        1 => Ok(Answer::Value(cursor.value()?)),
+        1 => Ok(Answer::Value(cursor.value(FORMAT)?)),
         2 => Ok(Answer::Generation(cursor.long()?)),
-        3 => Ok(Answer::Reply(cursor.tuple(copies)?)),
+        3 => Ok(Answer::Reply(cursor.tuple(copies, FORMAT)?)),
         _ => Err(CodecNo::Bad),
     }
 }
@@ -38,7 +38,7 @@ fn put_answer(out: &mut Vec<u8>, copies: u8, answer: &Answer) -> Result<(), Allo
         Answer::Nothing => put_byte(out, 0),
         Answer::Value(value) => {
             put_byte(out, 1)?;
-            put_value(out, value)
+            put_value(out, FORMAT, value)
         }
         Answer::Generation(generation) => {
             put_byte(out, 2)?;
@@ -46,7 +46,7 @@ fn put_answer(out: &mut Vec<u8>, copies: u8, answer: &Answer) -> Result<(), Allo
         }
         Answer::Reply(tuple) => {
             put_byte(out, 3)?;
-            put_tuple(out, copies, tuple)
+            put_tuple(out, copies, FORMAT, tuple)
         }
     }
 }

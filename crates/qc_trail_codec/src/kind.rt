@@ -6,7 +6,7 @@ ghost use Rattle.qc_codec.specs.Gives.{Reads, Puts};
 ghost use Rattle.qc_trail_codec.specs.Events as events;
 ghost use Rattle.qc_trail_codec.specs.Saving.{IsKindFor, IsOpFor};
 
-use qc_codec::{CodecNo, Cursor, put_config, put_long, put_value, put_word};
+use qc_codec::{CodecNo, Cursor, FORMAT, put_config, put_long, put_value, put_word};
 use qc_config::Op;
 use qc_event::Kind;
 use std::alloc::AllocError;
@@ -29,11 +29,11 @@ pub(crate) fn op(cursor: &mut Cursor<'_>, copies: u8) -> Result<Op, CodecNo>
         0 => Ok(Op::Get),
         1 => Ok(Op::PutData {
             version: cursor.long()?,
-            value: cursor.value()?,
+            value: cursor.value(FORMAT)?,
         }),
         2 => Ok(Op::PutConfig {
             generation: cursor.long()?,
-            config: cursor.config(copies)?,
+            config: cursor.config(copies, FORMAT)?,
         }),
         _ => Err(CodecNo::Bad),
     }
@@ -54,12 +54,12 @@ pub(crate) fn put_op(out: &mut Vec<u8>, copies: u8, op: &Op) -> Result<(), Alloc
         Op::PutData { version, value } => {
             out.push(1)?;
             put_long(out, *version)?;
-            put_value(out, value)
+            put_value(out, FORMAT, value)
         }
         Op::PutConfig { generation, config } => {
             out.push(2)?;
             put_long(out, *generation)?;
-            put_config(out, copies, config)
+            put_config(out, copies, FORMAT, config)
         }
     }
 }
@@ -80,11 +80,11 @@ pub(crate) fn kind(cursor: &mut Cursor<'_>, copies: u8) -> Result<Kind, CodecNo>
         }),
         2 => Ok(Kind::Write {
             rec: cursor.byte()?,
-            value: cursor.value()?,
+            value: cursor.value(FORMAT)?,
         }),
         3 => Ok(Kind::Reconf {
             rec: cursor.byte()?,
-            config: cursor.config(copies)?,
+            config: cursor.config(copies, FORMAT)?,
         }),
         4 => Ok(Kind::Access),
         _ => Err(CodecNo::Bad),
@@ -114,12 +114,12 @@ pub(crate) fn put_kind(out: &mut Vec<u8>, copies: u8, kind: &Kind) -> Result<(),
         Kind::Write { rec, value } => {
             out.push(2)?;
             out.push(*rec)?;
-            put_value(out, value)
+            put_value(out, FORMAT, value)
         }
         Kind::Reconf { rec, config } => {
             out.push(3)?;
             out.push(*rec)?;
-            put_config(out, copies, config)
+            put_config(out, copies, FORMAT, config)
         }
         Kind::Access => put_byte(out, 4),
     }

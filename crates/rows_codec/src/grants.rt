@@ -1,7 +1,7 @@
 //! Grants.
 ghost use Rattle.std.specs.Prelude.{◌≤◌};
 ghost use Rattle.qc_codec.specs.Bodies as body;
-ghost use Rattle.qc_codec.specs.Fields.{format_1};
+ghost use Rattle.qc_codec.specs.Fields.{layout};
 
 use crate::{Answer, bytes_of, print_bytes, print_fault};
 use qc_codec::{read_grant, write_grant};
@@ -23,34 +23,41 @@ pub(crate) fn print_op(rt: &HostRuntime, op: &Op) -> io::Result<()> {
     }
 }
 
-fn print_both(rt: &HostRuntime, alloc: Global, copies: u8, grant: &Grant) -> io::Result<()>
+fn print_both(
+    rt: &HostRuntime,
+    alloc: Global,
+    copies: u8,
+    format: u8,
+    grant: &Grant,
+) -> io::Result<()>
     requires copies { copies ≤ 16 }
-    requires fits { (body.grant (format_1 copies)).fits grant.now }
+    requires fits { (body.grant (layout copies format)).fits grant.now }
 {
     let (access, rec, tuple) = (grant.access, grant.rec, TupleText(grant.tuple));
     print!(rt; "{access} record {rec} ")?;
     print_op(rt, &grant.op)?;
     println!(rt; " leaves {tuple}")?;
-    let again = write_grant(alloc, grant, copies)?;
+    let again = write_grant(alloc, grant, copies, format)?;
     print_bytes(rt, alloc, &again)
 }
 
-fn show(rt: &HostRuntime, alloc: Global, copies: u8, bytes: &[u8]) -> io::Result<()>
+fn show(rt: &HostRuntime, alloc: Global, copies: u8, format: u8, bytes: &[u8]) -> io::Result<()>
     requires { copies ≤ 16 }
 {
-    match read_grant(bytes, copies) {
-        Ok(grant) => print_both(rt, alloc, copies, &grant),
+    match read_grant(bytes, copies, format) {
+        Ok(grant) => print_both(rt, alloc, copies, format, &grant),
         Err(fault) => print_fault(rt, fault),
     }
 }
 
-/// `grant COPIES BYTES`.
+/// `grant COPIES FORMAT BYTES`.
 pub(crate) fn grant(rt: &HostRuntime, alloc: Global, mut words: Words<'_>) -> Answer {
     let copies = words.number()?;
-    if copies > 16 {
+    let format = words.number()?;
+    if copies > 16 || format == 0 || format > 2 {
         return Err(BadLine::Number);
     }
     let bytes = bytes_of(alloc, &mut words)?;
     words.end()?;
-    Ok(show(rt, alloc, copies, &bytes))
+    Ok(show(rt, alloc, copies, format, &bytes))
 }

@@ -1,6 +1,6 @@
 //! What was answered, as text.
 
-use qc_codec::{BaseRecord, read_base, read_grant};
+use qc_codec::{BaseRecord, FORMAT, read_base, read_grant};
 use qc_event::{Answered, Entry, Event, Grant, Op, Short};
 use qc_journal::Body;
 use qc_pair::PairNo;
@@ -90,10 +90,10 @@ fn base(alloc: Global, base: &BaseRecord) -> Result<String, AllocError> {
 
 // A record behind the first.
 fn record(alloc: Global, body: &[u8]) -> Result<String, AllocError> {
-    if let Ok(found) = read_base(alloc, body, 1, 2) {
+    if let Ok(found) = read_base(alloc, body, 1, 2, FORMAT) {
         return base(alloc, &found);
     }
-    match read_grant(body, 1) {
+    match read_grant(body, 1, FORMAT) {
         Ok(found) => grant(alloc, &found),
         Err(_) => said(alloc, ", no grant"),
     }

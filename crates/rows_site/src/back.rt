@@ -2,7 +2,7 @@
 ghost use Rattle.std.specs.Prelude.{◌≤◌};
 
 use crate::state::State;
-use qc_codec::read_grant;
+use qc_codec::{FORMAT, read_grant};
 use qc_disk::MemDisk;
 use qc_event::{Grant, Op};
 use qc_journal::Journal;
@@ -19,7 +19,7 @@ fn grant_by(alloc: Global, copies: u8, word: &str) -> Result<Option<Grant>, Allo
     requires { copies ≤ 16 }
 {
     let spelled = bytes(alloc, word)?;
-    Ok(read_grant(&spelled, copies).ok())
+    Ok(read_grant(&spelled, copies, FORMAT).ok())
 }
 
 fn grants_by(alloc: Global, copies: u8, words: &[&str]) -> Result<Vec<Grant>, AllocError>

@@ -9,6 +9,7 @@ use Rattle.qc_codec.specs.Bodies as body
 use Rattle.qc_codec.specs.Ledger.{made_for}
 use Rattle.qc_codec.specs.Order.{EachMay}
 use Rattle.qc_codec.proofs.Exact.{IsBytes}
+use Rattle.qc_codec.proofs.Fits.{made_proper}
 
 -- each number of a list is a byte
 abbrev pub Bytes : List ℕ → Type 0
@@ -23,7 +24,7 @@ are_bytes bytes all i = elim (cases_lt i (length bytes)) [
 -- a made record of a proper table fits, where what it spells is of bytes: so is the disk's number
 pub made_of_bytes : (disk : ℕ) (table : Table) → (body.table 1).fits table → Bytes (body.made.spell (made_for disk table)) → body.made.fits (made_for disk table)
 unfolding body.made body.making
-made_of_bytes disk table proper bytes = ((bytes 2 0 (omega arith), proper), tt)
+made_of_bytes disk table proper bytes = made_proper disk table (bytes 2 0 (omega arith)) proper
 
 -- what holds of the first bodies, and goes on to each further one that may stand, holds of all
 module _ (May : List (List ℕ) → List ℕ → Type 0) (Holds : List (List ℕ) → Type 0) (next : (front : List (List ℕ)) (bytes : List ℕ) → Holds front → May front bytes → IsBytes bytes → Holds (front ++ bytes ∷ [])) where

@@ -27,7 +27,7 @@ use Rattle.qc_refine.proofs.Restoring.ImageReadings.{made_told}
 use Rattle.qc_refine.proofs.WorkedPairs.{has}
 use Rattle.qc_opening.proofs.KeptDisks.Stands.{stand}
 use Rattle.qc_codec.specs.Bodies as body
-use Rattle.qc_codec.specs.Fields.{config, datum, half, long, word}
+use Rattle.qc_codec.specs.Fields.{config, datum, half, long, number_datum, word}
 use Rattle.qc_codec.proofs.Order.{each_none}
 use Rattle.qc_ledger.specs.Image as tops
 use Rattle.qc_site.specs.Image as grants
@@ -45,11 +45,11 @@ abbrev made_bytes : ℕ → List ℕ
 made_bytes number = 1 ∷ 1 ∷ number ∷ 1 ∷ 1 ∷ 1 ∷ 97 ∷ 0 ∷ 0 ∷ 0 ∷ 0 ∷ 0 ∷ 0 ∷ 0 ∷ 0 ∷ 1 ∷ 1 ∷ 0 ∷ 1 ∷ 0 ∷ 1 ∷ []
 
 ledger_made : tops.made_body 0 table ≡ made_bytes 0
-unfolding body.ledger body.making body.table body.row body.label config datum half long
+unfolding body.ledger body.making body.table body.row body.label config datum number_datum half long
 ledger_made = refl
 
 copy_made : grants.made_body 1 table ≡ made_bytes 1
-unfolding body.made body.making body.table body.row body.label config datum half long
+unfolding body.made body.making body.table body.row body.label config datum number_datum half long
 copy_made = refl
 
 first_epoch : tops.epoch_body 1 ≡ 2 ∷ 0 ∷ 0 ∷ 0 ∷ 1 ∷ []
@@ -57,7 +57,7 @@ unfolding body.ledger word
 first_epoch = refl
 
 proper : (body.table 1).fits table
-unfolding body.table body.row body.label config datum half long
+unfolding body.table body.row body.label config datum number_datum half long
 proper = search rules
 
 -- BYTES

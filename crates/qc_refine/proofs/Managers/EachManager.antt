@@ -1,5 +1,5 @@
 -- Each of the managers that a live transaction sees finds and leaves sound copies.
-use Rattle.std.proofs.Common.{◌≡◌, ℕ, List, [], ◌∷◌, ◌++◌, sym, ap, ◌∙◌, subst, append_assoc}
+use Rattle.std.proofs.Common.{◌≡◌, List, [], ◌∷◌, ◌++◌, sym, ap, ◌∙◌, subst, append_assoc}
 use Rattle.std.specs.Prelude.{All, None}
 use Rattle.std.proofs.lemmas.Grind.{flat_map-append}
 use Rattle.qc_config.specs.Val.{Datum}

@@ -3,9 +3,9 @@ use Rattle.std.proofs.Common.{arith, ap, sym, subst, ◌∙◌}
 use Rattle.qc_event.specs.declared.table.Table.{Table}
 use Rattle.qc_codec.specs.Bodies as body
 use Rattle.qc_codec.specs.Ledger.{made_for}
+use Rattle.qc_codec.proofs.Fits.{made_proper}
 use Rattle.qc_codec.proofs.Bases.{made_spelled}
 use Rattle.qc_ledger.specs.Image.{made_body}
-use Rattle.qc_ledger.proofs.Firsts.{made_proper}
 use Rattle.qc_ledger.proofs.mounting.made_of.Goals as goal
 
 pub write_made-requires : goal.write_made-requires

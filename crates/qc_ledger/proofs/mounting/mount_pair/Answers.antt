@@ -18,7 +18,7 @@ use Rattle.qc_pair.proofs.Halves.{active_keeps}
 use Rattle.qc_ledger.proofs.mounting.mount_pair.Goals as goal
 
 pub into_fold-journal-requires-clause-few : goal.into_fold-journal-requires-clause-few
-into_fold-journal-requires-clause-few g c = (table_sized c.args.table.now c.requires.proper).copies
+into_fold-journal-requires-clause-few g c = (table_sized 1 c.args.table.now c.requires.proper).copies
 
 pub returns-in-Ok-begin-clause-mounts : goal.returns-in-Ok-begin-clause-mounts
 returns-in-Ok-begin-clause-mounts g c =

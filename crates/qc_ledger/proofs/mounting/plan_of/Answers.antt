@@ -5,7 +5,8 @@ use Rattle.qc_codec.specs.declared.record.Made.{Made}
 use Rattle.qc_journal.specs.Image.{bodies_of}
 use Rattle.qc_ledger.specs.Image.{IsLedgerFault, made_body}
 use Rattle.qc_ledger.specs.Refusing.{IsOfBytes}
-use Rattle.qc_ledger.proofs.Firsts.{handed_on, made_proper}
+use Rattle.qc_codec.proofs.Fits.{made_proper}
+use Rattle.qc_ledger.proofs.Firsts.{handed_on}
 use Rattle.qc_ledger.proofs.Writing.{epoch_fits}
 use Rattle.qc_ledger.proofs.mounting.plan_of.Goals as goal
 

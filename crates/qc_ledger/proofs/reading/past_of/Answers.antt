@@ -3,7 +3,8 @@ use Rattle.std.proofs.Common.{◌∷◌, ◌∙◌, ap, sym, length, drop}
 use Rattle.qc_journal.specs.Image.{bodies_of}
 use Rattle.qc_ledger.specs.Image.{IsLedgerFault}
 use Rattle.qc_ledger.specs.Reading.{IsFirstBad}
-use Rattle.qc_ledger.proofs.Firsts.{first_fault, handed_on, made_sized, with_first}
+use Rattle.qc_codec.proofs.Fits.{made_sized}
+use Rattle.qc_ledger.proofs.Firsts.{first_fault, handed_on, with_first}
 use Rattle.qc_event.proofs.Numbers.{nonzero}
 use Rattle.qc_ledger.proofs.reading.past_of.Goals as goal
 

@@ -6,7 +6,7 @@ use Rattle.qc_codec.specs.Base.{number_of_base}
 use Rattle.qc_codec.specs.Bodies as body
 use Rattle.qc_codec.specs.Copy.{grant_form}
 use Rattle.qc_codec.specs.Ledger.{made_for}
-use Rattle.qc_codec.proofs.Fits.{table_sized}
+use Rattle.qc_codec.proofs.Fits.{made_proper, table_sized}
 use Rattle.qc_config.specs.declared.tuple.Tuple.{Tuple}
 use Rattle.qc_event.specs.declared.table.Table.{Table}
 use Rattle.qc_event.specs.History.{Past, limit}
@@ -15,7 +15,6 @@ use Rattle.qc_event.specs.Listed.{listed}
 use Rattle.qc_event.specs.Tables.{setting_of}
 use Rattle.qc_journal.specs.Image.{HasRecords}
 use Rattle.qc_ledger.specs.Entered.{told_body}
-use Rattle.qc_ledger.proofs.Firsts.{made_proper}
 use Rattle.qc_opening.specs.Mountings.{AreKept}
 use Rattle.qc_opening.specs.Pairs.{AreFoldedInPairs, AreLeftByFolds, IsCopyFolded, IsFolded, IsLedgerFolded, IsUnfolded, MountedInPairs, active_images, active_number, next_base, of_active, other_image, other_made}
 use Rattle.qc_opening.proofs.KeptDisks.Choices.{Each, each_at_once}
@@ -74,7 +73,7 @@ module _ (table : Table) (told : ℕ → Option (List ℕ)) (records : ℕ → L
 
       made_fits : body.made.fits (made_for (number_at (not (m.swapped pair)) pair) table)
       made_fits =
-          let few = (table_sized table m.mounted.proper).copies in
+          let few = (table_sized 1 table m.mounted.proper).copies in
           made_proper (number_at (not (m.swapped pair)) pair) table (byte_number (not (m.swapped pair)) pair (omega (arith, there, few))) m.mounted.proper
 
       -- where it was folded the other image is

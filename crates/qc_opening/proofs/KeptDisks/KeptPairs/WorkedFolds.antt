@@ -4,7 +4,7 @@ use mathlib.Core.Bool.{true≢false}
 use Rattle.std.specs.Prelude.{All, Some}
 use Rattle.std.proofs.lemmas.List.Elements.{All-cons, All-nil}
 use Rattle.qc_codec.specs.Bodies as body
-use Rattle.qc_codec.specs.Fields.{config, datum, half, long, tuple, word}
+use Rattle.qc_codec.specs.Fields.{config, datum, half, long, number_datum, tuple, word}
 use Rattle.qc_config.specs.declared.tuple.Tuple.{Tuple}
 use Rattle.qc_event.specs.Standing.{HasEnded}
 use Rattle.qc_event.specs.Tables.{base_of, setting_of}
@@ -39,7 +39,7 @@ unfolding body.base body.folded long word
 ledger_short = refl
 
 copy_short : length ((base_form kind.Copy table).spell (next_base kind.Copy [] 1 held)) ≡ 43
-unfolding body.base body.folded tuple config datum half long word
+unfolding body.base body.folded tuple config datum number_datum half long word
 copy_short = refl
 
 ledger_fits : (base_form kind.Ledger table).fits (next_base kind.Ledger [] 1 [])
@@ -47,7 +47,7 @@ unfolding body.base body.folded long word
 ledger_fits = search rules
 
 copy_fits : (base_form kind.Copy table).fits (next_base kind.Copy [] 1 held)
-unfolding body.base body.folded tuple config datum half long word
+unfolding body.base body.folded tuple config datum number_datum half long word
 copy_fits = search rules
 
 -- THE IMAGES

@@ -38,7 +38,7 @@ into_disks-requires g c =
     (omega (arith, size, room.0), omega (arith, size, room.1))
 
 pub mount_all-requires-clause-few : goal.mount_all-requires-clause-few
-mount_all-requires-clause-few g c = (table_sized c.args.table.now c.requires.proper).copies
+mount_all-requires-clause-few g c = (table_sized 1 c.args.table.now c.requires.proper).copies
 
 pub returns-in_default-clause-left : goal.returns-in_default-clause-left
 returns-in_default-clause-left g c = unreached g.D.Disk.view g.met.D.Disk.leaves_now c.args.table.now Memory c.args.disks.items (λ n low failed. failed)

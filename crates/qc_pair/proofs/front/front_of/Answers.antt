@@ -1,5 +1,5 @@
 -- The made record that was read says of which size its table is.
-use Rattle.qc_pair.proofs.Fronts.{made_sized}
+use Rattle.qc_codec.proofs.Fits.{made_sized}
 use Rattle.qc_pair.proofs.front.front_of.Goals as goal
 
 pub number_of_second-requires-clause-few : goal.number_of_second-requires-clause-few

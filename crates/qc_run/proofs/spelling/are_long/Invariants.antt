@@ -5,4 +5,4 @@ use Rattle.qc_event.specs.declared.table.Row.{Row}
 use Rattle.qc_run.proofs.spelling.are_long.Given as goal
 
 abbrev pub invariant-loop-row : goal.invariant-loop-row
-invariant-loop-row l = All (λ (row : Row). datum.fits row.start) (take l.row-index l.rows)
+invariant-loop-row l = All (λ (row : Row). (datum 1).fits row.start) (take l.row-index l.rows)

@@ -3,4 +3,4 @@ use Rattle.qc_codec.proofs.Fits.{number_fits}
 use Rattle.qc_run.proofs.spelling.is_long.Goals as goal
 
 pub returns : goal.returns
-returns c = number_fits c.args.row.now.start c.as_number-start.result c.as_number-start.ensures (omega arith)
+returns c = number_fits 1 c.args.row.now.start c.as_number-start.result c.as_number-start.ensures (omega arith)

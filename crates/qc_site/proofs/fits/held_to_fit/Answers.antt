@@ -13,7 +13,7 @@ loop-tuple-preserved g c =
     All-more IsTupleInRange c.args.held.now c.loop-tuple.tuple-index t c.loop-tuple-test.true c.loop-tuple.invariant
     (subst IsTupleInRange c.tuple-item.is (record {
       version = omega arith;
-      value = number_fits t.value c.as_number-number.result c.as_number-number.ensures (omega arith);
+      value = number_fits 1 t.value c.as_number-number.result c.as_number-number.ensures (omega arith);
       generation = omega arith;
       config = record { votes = c.config_in_range.ensures.votes; read = c.config_in_range.ensures.read; write = c.config_in_range.ensures.write };
     }))

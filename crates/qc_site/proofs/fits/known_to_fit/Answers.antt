@@ -8,6 +8,6 @@ pub returns : goal.returns
 returns g c = record {
   fits = grant_fits (setting_of g.N.Store.table g.N.Store.base) c.args.pass.now.seen c.args.copies c.args.ask.now c.args.tuple.now
       c.requires.proper c.requires.legal c.requires.copies c.requires.asked c.requires.tuple (omega arith)
-      c.name_in_range.ensures.first c.name_in_range.ensures.rest (omega arith) (number_fits c.args.tuple.now.value c.as_number-number.result c.as_number-number.ensures (omega arith)) (omega arith)
+      c.name_in_range.ensures.first c.name_in_range.ensures.rest (omega arith) (number_fits 1 c.args.tuple.now.value c.as_number-number.result c.as_number-number.ensures (omega arith)) (omega arith)
       (record { votes = c.config_in_range.ensures.votes; read = c.config_in_range.ensures.read; write = c.config_in_range.ensures.write });
 }

@@ -2,7 +2,7 @@
 use Rattle.std.proofs.Common.{arith, sym, subst}
 use Rattle.qc_event.specs.declared.table.Table.{Table}
 use Rattle.qc_codec.specs.Bodies as body
-use Rattle.qc_ledger.proofs.Firsts.{made_proper}
+use Rattle.qc_codec.proofs.Fits.{made_proper}
 use Rattle.qc_site.proofs.mounting.made_of.Goals as goal
 
 pub write_made-requires : goal.write_made-requires

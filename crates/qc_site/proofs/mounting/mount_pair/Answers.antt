@@ -4,6 +4,7 @@ use Rattle.std.specs.Prelude.{Bool, true, false, not, Ok, Err}
 use Rattle.std.specs.Result.{IsErrOf}
 use Rattle.qc_journal.specs.Image.{bodies_of}
 use Rattle.qc_journal.specs.Journal.{Keeps, disk_of, limit_of, IsUp}
+use Rattle.qc_codec.proofs.Fits.{made_proper}
 use Rattle.qc_ledger.proofs.Halves.{opened_half, own_begun, own_parted, spare_begun, spare_parted, LeavesHalf}
 use Rattle.qc_pair.specs.Pair.{active_of, number_at, other_of, own_of, spare_of, swapped}
 use Rattle.qc_pair.specs.declared.fault.PairNo.TheVariants as no
@@ -13,7 +14,6 @@ use Rattle.qc_site.specs.Image.{made_body, to_write, AreMountableAsCopy, IsCopyF
 use Rattle.qc_site.specs.Pairs.{IsCopyPairNo}
 use Rattle.qc_site.specs.Refusing.{IsOfCopyImage}
 use Rattle.qc_site.specs.declared.fault.SiteNo.TheVariants.{Disk}
-use Rattle.qc_ledger.proofs.Firsts.{made_proper}
 use Rattle.qc_site.proofs.Faults.{few_copies}
 use Rattle.qc_site.proofs.PairMounts.{begin_refused, copy_mounted, none_fails, not_for_memory, other_number, own_refused, refused_fails, refused_so, spare_refused}
 use Rattle.qc_site.proofs.Rests.{start_told}

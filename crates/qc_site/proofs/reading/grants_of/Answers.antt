@@ -21,4 +21,4 @@ returns-in_err-check_made-clause-fault c = λ limit.
     c.from_residual.ensures.1 (c.in_err-check_made.ensures.fault past)
 
 pub read_second-requires-clause-small : goal.read_second-requires-clause-small
-read_second-requires-clause-small c = (table_sized c.args.table.now c.requires.fits).records
+read_second-requires-clause-small c = (table_sized 1 c.args.table.now c.requires.fits).records

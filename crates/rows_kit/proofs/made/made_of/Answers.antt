@@ -1,7 +1,8 @@
--- A made record that fits has a table that does.
+-- What was read is proper.
 use Rattle.qc_codec.specs.Bodies as body
+use Rattle.qc_codec.proofs.Fits.{making_table}
 use Rattle.rows_kit.proofs.made.made_of.Goals as goal
 
 pub returns-in-Ok : goal.returns-in-Ok
-unfolding body.made body.making
-returns-in-Ok c = c.in-Ok.ensures.found.1.0.1
+unfolding body.made
+returns-in-Ok c = making_table c.in-Ok.made c.in-Ok.ensures.found.1

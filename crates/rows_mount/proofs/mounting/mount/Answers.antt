@@ -3,4 +3,4 @@ use Rattle.qc_codec.proofs.Fits.{table_sized}
 use Rattle.rows_mount.proofs.mounting.mount.Goals as goal
 
 pub obtain_all-requires-clause-few : goal.obtain_all-requires-clause-few
-obtain_all-requires-clause-few g c κs within = (table_sized c.args.made.now.table c.requires).copies
+obtain_all-requires-clause-few g c κs within = (table_sized 1 c.args.made.now.table c.requires).copies

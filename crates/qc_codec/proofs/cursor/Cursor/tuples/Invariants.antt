@@ -1,9 +1,9 @@
 use Rattle.std.proofs.Common.{◌≡◌, ◌-◌}
 use Rattle.qc_codec.specs.Form.{times_taken}
 use Rattle.qc_codec.specs.Fields as field
-use Rattle.qc_codec.specs.Fields.{format_1}
+use Rattle.qc_codec.specs.Fields.{layout}
 use Rattle.qc_codec.specs.Lists.{continued}
 use Rattle.qc_codec.proofs.cursor.Cursor.tuples.Given as goal
 
 abbrev pub invariant-loop : goal.invariant-loop
-invariant-loop l = continued l.tuples.items (times_taken (l.count - l.counter) (field.tuple (format_1 l.copies)) l.self.rest.now) ≡ times_taken l.count (field.tuple (format_1 l.copies)) l.fn.self.rest.now
+invariant-loop l = continued l.tuples.items (times_taken (l.count - l.counter) (field.tuple (layout l.copies l.format)) l.self.rest.now) ≡ times_taken l.count (field.tuple (layout l.copies l.format)) l.fn.self.rest.now
