@@ -85,8 +85,8 @@ fn fold_last<D: Disk + Drop, N: Mounting, R: Wait>(
     ensures left { (past : Past) → IsOlder first.new.seen past
         → OtherKeeps (setting_of N.table N.base) N.found 0
         (D.view (disk_of (other_in fold.new)).disk.value)
-        ⊎ ((folding.old.whole ≡ true) × WasFolded (setting_of N.table N.base) N.found first.old.seen 0
-        (D.view (disk_of (other_in fold.new)).disk.value) past) }
+        ⊎ ((folding.old.whole ≡ true) × WasFolded (setting_of N.table N.base) N.found
+        first.old.seen 0 (D.view (disk_of (other_in fold.new)).disk.value) past) }
     ensures folded { folding.new.whole ≡ true → (folding.old.whole ≡ true)
         × IsFolded (setting_of N.table N.base) N.found 0 []
         (D.view (disk_of (other_in fold.new)).disk.value) }

@@ -84,7 +84,8 @@ fn log_listed<D: Disk + Drop, N: Mounting, R: Wait>(
         (D.view (disk_of (journal_in ledger.old.shelf))).faults
         → Pays first (downs ledger.new.pass.mine)
         (D.view (disk_of (journal_in ledger.new.shelf))).faults }
-    ensures limit { limit_of (journal_in ledger.new.shelf) ≡ limit_of (journal_in ledger.old.shelf) }
+    ensures limit { limit_of (journal_in ledger.new.shelf)
+        ≡ limit_of (journal_in ledger.old.shelf) }
     ensures full { (before : List (List ℕ))
         → KeepsLogged (listed ledger.old.pass.seen) before ledger.old.shelf
         (tops_of ledger.old.pass.mine)

@@ -47,11 +47,47 @@ fn enter_at<D: Disk + Drop, N: Mounting, const C: u8, R: Wait>(
     Some(Mutex::new(Held::new(pair.copy, pass)))
 }
 
-// Each copy's statement.
-macro_rules! enter_all {
-    ($rt:expr, $desk:expr, $first:expr, $copies:expr, $folds:expr, $all:expr; $($s:ident)*) => {
-        $(let $s = enter_at($rt, $desk, $first, $copies, $folds, $all);)*
-    };
+// Four copies' sites, one behind another.
+fn enter_four<
+    D: Disk + Drop,
+    N: Mounting,
+    const C0: u8,
+    const C1: u8,
+    const C2: u8,
+    const C3: u8,
+    R: Wait,
+>(
+    rt: &R,
+    desk: &Desk<N>,
+    first: &mut Pass<N>,
+    copies: &mut Vec<CopyPair<Boxed<D>>>,
+    folds: &mut Vec<Fold<Boxed<D>>>,
+    all: u8,
+) -> (
+    Option<Mutex<Held<D, N, C0>>>,
+    Option<Mutex<Held<D, N, C1>>>,
+    Option<Mutex<Held<D, N, C2>>>,
+    Option<Mutex<Held<D, N, C3>>>,
+)
+    requires next { (C1 ≡ C0 + 1) × (C2 ≡ C0 + 2) × (C3 ≡ C0 + 3) }
+    requires low { C0 < 13 }
+    requires whole { all ≡ length N.base }
+    requires first { IsOpening first.old (C0 + 1) }
+    requires waiting { AreWaiting N.base N.found C0 copies.old.items }
+    requires entered { HaveEntered N.base N.found C0 folds.old.items }
+    requires room { length N.base + 1 ≤ vec_capacity folds.old }
+    ensures first { IsOpening first.new (C0 + 5) }
+    ensures waiting { AreWaiting N.base N.found (C0 + 4) copies.new.items }
+    ensures entered { HaveEntered N.base N.found (C0 + 4) folds.new.items }
+    ensures room { length N.base + 1 ≤ vec_capacity folds.new }
+    ensures there { IsThere C0 all (is_some result.0) × IsThere C1 all (is_some result.1)
+        × IsThere C2 all (is_some result.2) × IsThere C3 all (is_some result.3) }
+{
+    let s0 = enter_at(rt, desk, first, copies, folds, all);
+    let s1 = enter_at(rt, desk, first, copies, folds, all);
+    let s2 = enter_at(rt, desk, first, copies, folds, all);
+    let s3 = enter_at(rt, desk, first, copies, folds, all);
+    (s0, s1, s2, s3)
 }
 
 impl<D: Disk + Drop, N: Mounting> System<D, N> {
@@ -81,7 +117,10 @@ impl<D: Disk + Drop, N: Mounting> System<D, N> {
         let pass = desk.split(rt, &mut first);
         folds.push_reserved(ledger.fold);
         let ledger = Mutex::new(HeldLedger::new(ledger.book, pass));
-        enter_all!(rt, &desk, &mut first, &mut copies, &mut folds, all; s0 s1 s2 s3 s4 s5 s6 s7 s8 s9 s10 s11 s12 s13 s14 s15);
+        let (s0, s1, s2, s3) = enter_four(rt, &desk, &mut first, &mut copies, &mut folds, all);
+        let (s4, s5, s6, s7) = enter_four(rt, &desk, &mut first, &mut copies, &mut folds, all);
+        let (s8, s9, s10, s11) = enter_four(rt, &desk, &mut first, &mut copies, &mut folds, all);
+        let (s12, s13, s14, s15) = enter_four(rt, &desk, &mut first, &mut copies, &mut folds, all);
         (
             System {
                 desk,
