@@ -34,11 +34,6 @@ impl<'a, R: Wait> Turns<'a, R> {
         })
     }
 
-    /// Whether each came in time. Where no thread could be made for one, it did not, and another run may be another.
-    pub fn all_came(&self) -> bool {
-        !self.table.lock(self.rt).missed()
-    }
-
     // Rings the bell of who is next.
     fn call(&self, table: &mut Table) {
         if let Some(bell) = table.choose().and_then(|bell| self.bells.get(bell)) {
