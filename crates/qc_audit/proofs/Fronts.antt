@@ -6,7 +6,7 @@ use Rattle.std.proofs.lemmas.Bool.{and_parts, leb-true}
 use Rattle.std.proofs.lemmas.List.{length-append}
 use Rattle.std.proofs.lemmas.List.Elements.{All-head, All-tail}
 use Rattle.qc_codec.specs.Bodies.{label, row, table, making, made}
-use Rattle.qc_codec.specs.Fields.{config, datum, format_1, half, long, number_datum}
+use Rattle.qc_codec.specs.Fields.{config, current, current_format, datum, half, long, number_datum}
 use Rattle.qc_codec.specs.Ledger.{made_for}
 use Rattle.qc_codec.proofs.Fits.{config_votes}
 use Rattle.qc_event.specs.declared.table.Row.{Row}
@@ -15,26 +15,26 @@ use Rattle.qc_event.specs.declared.table.Table.{Table}
 most_between : (least most n : ℕ) → (nat_le least n && nat_le n most) ≡ true → n ≤ most
 most_between least most n is = leb-true n most (and_parts (nat_le least n) (nat_le n most) is).1
 
-row_short : (copies : ℕ) (r : Row) → copies ≤ 16 → (row (format_1 copies)).fits r → length ((row (format_1 copies)).spell r) ≤ 46
+row_short : (copies : ℕ) (r : Row) → copies ≤ 16 → (row (current copies)).fits r → length ((row (current copies)).spell r) ≤ 46
 unfolding row label datum number_datum long half config
 row_short copies r few fits =
     let name = most_between 1 16 (length r.name) fits.0.0.0.0.0.1 in
-    let votes : length r.config.votes ≡ copies = config_votes (format_1 copies) r.config fits.0.1.1 in
+    let votes : length r.config.votes ≡ copies = config_votes (current copies) r.config fits.0.1.1 in
     omega (
       arith,
-      length-append (label.spell r.name) ((datum 1).spell r.start ++ (config (format_1 copies)).spell r.config),
-      length-append ((datum 1).spell r.start) ((config (format_1 copies)).spell r.config),
+      length-append (label.spell r.name) ((datum current_format).spell r.start ++ (config (current copies)).spell r.config),
+      length-append ((datum current_format).spell r.start) ((config (current copies)).spell r.config),
       length-append r.config.votes (half.spell r.config.read ++ half.spell r.config.write),
     )
 
-rows_short : (copies : ℕ) (rows : List Row) → copies ≤ 16 → All (row (format_1 copies)).fits rows → length (flat_map (row (format_1 copies)).spell rows) ≤ 46 * length rows
+rows_short : (copies : ℕ) (rows : List Row) → copies ≤ 16 → All (row (current copies)).fits rows → length (flat_map (row (current copies)).spell rows) ≤ 46 * length rows
 rows_short copies [] few fits = omega arith
 rows_short copies (r ∷ rows) few fits =
-    let here = row_short copies r few (All-head (row (format_1 copies)).fits r rows fits) in
-    let rest = rows_short copies rows few (All-tail (row (format_1 copies)).fits r rows fits) in
-    omega (arith, length-append ((row (format_1 copies)).spell r) (flat_map (row (format_1 copies)).spell rows))
+    let here = row_short copies r few (All-head (row (current copies)).fits r rows fits) in
+    let rest = rows_short copies rows few (All-tail (row (current copies)).fits r rows fits) in
+    omega (arith, length-append ((row (current copies)).spell r) (flat_map (row (current copies)).spell rows))
 
-pub front_short : (t : Table) → (table 1).fits t → length (made.spell (made_for 0 t)) < 2 ^ 32
+pub front_short : (t : Table) → (table current_format).fits t → length (made.spell (made_for 0 t)) < 2 ^ 32
 unfolding made making table
 front_short t fits =
     let copies = most_between 1 16 t.copies fits.0.0.0.1 in

@@ -14,6 +14,7 @@ use Rattle.qc_trail_codec.specs.declared.record.SavedTrail.{SavedTrail}
 use Rattle.qc_audit.specs.Saved.{AreParts, HasSizes, IsSaved}
 use Rattle.qc_audit.proofs.Proper.{sizes_told}
 use Rattle.qc_audit.proofs.Spelled.{one_parting, one_value}
+use Rattle.qc_codec.specs.Fields.{current_format}
 
 -- what is bad for one reader is so for another
 pub still_bad : {T U : Type 0} (f : CodecNo) → IsErrOf {T = T} (Err f) Bad → IsErrOf {T = U} (Err f) Bad
@@ -28,10 +29,10 @@ module _ (bytes front back : List ℕ) (parts : AreParts bytes front back) (tabl
   pub made_there : Spells body.made front (made_for 0 table)
   made_there = subst (λ xs. Spells body.made xs (made_for 0 table)) (sym (one_parting bytes front back s.front s.back parts s.parts).0) s.made
 
-  pub trail_there : Spells (saved.trail 1) back trail
-  trail_there = subst (λ xs. Spells (saved.trail 1) xs trail) (sym (one_parting bytes front back s.front s.back parts s.parts).1) s.rest
+  pub trail_there : Spells (saved.trail current_format) back trail
+  trail_there = subst (λ xs. Spells (saved.trail current_format) xs trail) (sym (one_parting bytes front back s.front s.back parts s.parts).1) s.rest
 
-  pub sizes_there : (t : Table) (u : SavedTrail) → Spells body.made front (made_for 0 t) → Spells (saved.trail 1) back u → HasSizes t u.base
+  pub sizes_there : (t : Table) (u : SavedTrail) → Spells body.made front (made_for 0 t) → Spells (saved.trail current_format) back u → HasSizes t u.base
   sizes_there t u made rest =
       let same = ap (λ (m : Made). m.table) (one_made front (made_for 0 t) table made made_there) in
       sizes_told t back u trail rest trail_there (subst (λ (x : Table). HasSizes x trail.base) (sym same) s.sizes)

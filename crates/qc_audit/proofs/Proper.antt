@@ -13,7 +13,7 @@ use Rattle.qc_event.specs.Base.{IsConfigFor, IsProper}
 use Rattle.qc_event.specs.History.{limit}
 use Rattle.qc_event.specs.Tables.{setting_of}
 use Rattle.qc_codec.specs.Bodies.{is_between, making, made, row, table}
-use Rattle.qc_codec.specs.Fields.{Layout, config, tuple, word}
+use Rattle.qc_codec.specs.Fields.{config, current_format, tuple, word, Layout}
 use Rattle.qc_codec.specs.Gives.{Spells}
 use Rattle.qc_codec.specs.Ledger.{made_for}
 use Rattle.qc_codec.proofs.Fits.{config_legal, config_votes}
@@ -47,13 +47,13 @@ record IsTable (t : Table) : Type 0 where
   most_records : length t.records ≤ 64
   configs : All (λ (r : Row). IsConfigFor t.copies r.config) t.records
 
-is_table : (t : Table) → (table 1).fits t → IsTable t
+is_table : (t : Table) → (table current_format).fits t → IsTable t
 unfolding table
 is_table t fits =
     let records = between 1 64 (length t.records) fits.0.0.1.0.0.1 in
     record { some_record = records.0; most_records = records.1; configs = λ k d lt. row_for (layout_of 1 t.copies) _ (fits.0.0.1.0.1.1 k d lt) }
 
-made_table : (who : ℕ) (t : Table) → made.fits (made_for who t) → (table 1).fits t
+made_table : (who : ℕ) (t : Table) → made.fits (made_for who t) → (table current_format).fits t
 unfolding made making
 made_table who t fits = fits.0.1.1
 
@@ -63,13 +63,13 @@ record IsBase (b : List (List Tuple)) : Type 0 where
   most_copies : length b ≤ 16
   configs : All (λ (r : List Tuple). All (λ (t : Tuple). IsConfigFor (length b) t.config) r) b
 
-is_base : (b : List (List Tuple)) → (base 1).fits b → IsBase b
+is_base : (b : List (List Tuple)) → (base current_format).fits b → IsBase b
 unfolding base
 is_base b fits =
     let copies = between 1 16 (length b) fits.0.0.1 in
     record { some_copy = copies.0; most_copies = copies.1; configs = λ k d lt j t less. tuple_for (layout_of 1 (length b)) _ ((fits.0.1.1.1 k d lt).1 j t less) }
 
-trail_base : (t : SavedTrail) → (trail 1).fits t → (base 1).fits t.base
+trail_base : (t : SavedTrail) → (trail current_format).fits t → (base current_format).fits t.base
 unfolding trail
 trail_base t fits = fits.0.0
 
@@ -97,11 +97,11 @@ width : SavedTrail → ℕ
 width t = length (slice_index_or t.base 0 [])
 
 -- a trail's bytes begin with how many copies and records there are
-begins : (t : SavedTrail) → (rest : List ℕ) × ((trail 1).spell t ≡ length t.base ∷ width t ∷ rest)
+begins : (t : SavedTrail) → (rest : List ℕ) × ((trail current_format).spell t ≡ length t.base ∷ width t ∷ rest)
 unfolding trail base width
 begins t = (_, refl)
 
-same_sizes : (bytes : List ℕ) (t u : SavedTrail) → Spells (trail 1) bytes t → Spells (trail 1) bytes u → (length t.base ≡ length u.base) × (width t ≡ width u)
+same_sizes : (bytes : List ℕ) (t u : SavedTrail) → Spells (trail current_format) bytes t → Spells (trail current_format) bytes u → (length t.base ≡ length u.base) × (width t ≡ width u)
 same_sizes bytes t u first second =
     let one = begins t in
     let two = begins u in
@@ -109,12 +109,12 @@ same_sizes bytes t u first second =
     (cc, cc)
 
 -- each copy has as many records as the first
-alike : (t : SavedTrail) → (trail 1).fits t → All (λ (row : List Tuple). length row ≡ width t) t.base
+alike : (t : SavedTrail) → (trail current_format).fits t → All (λ (row : List Tuple). length row ≡ width t) t.base
 unfolding trail base width
 alike t fits k d lt = (fits.0.0.0.1.1.1 k d lt).0
 
 -- trails of the same bytes have the same sizes
-pub sizes_told : (table : Table) (bytes : List ℕ) (t u : SavedTrail) → Spells (trail 1) bytes t → Spells (trail 1) bytes u → HasSizes table u.base → HasSizes table t.base
+pub sizes_told : (table : Table) (bytes : List ℕ) (t u : SavedTrail) → Spells (trail current_format) bytes t → Spells (trail current_format) bytes u → HasSizes table u.base → HasSizes table t.base
 unfolding width
 sizes_told table bytes t u first second sizes =
     let same = same_sizes bytes t u first second in
@@ -131,11 +131,11 @@ as_many : {A : Type 0} (spell : A → List ℕ) (xs : List A) → ((x : A) → 1
 as_many spell [] some = omega arith
 as_many spell (x ∷ xs) some = omega (arith, some x, as_many spell xs some, length-append (spell x) (flat_map spell xs))
 
-entries_fewer : (t : SavedTrail) → length t.entries ≤ length ((trail 1).spell t)
+entries_fewer : (t : SavedTrail) → length t.entries ≤ length ((trail current_format).spell t)
 unfolding trail
 entries_fewer t =
     let layout = layout_of 1 (length t.base) in
-    let head = (base 1).spell t.base in
+    let head = (base current_format).spell t.base in
     omega (arith, as_many (entry layout).spell t.entries (some_bytes layout), length-append {A = ℕ})
 
 pub few : (t : Table) (saved : SavedTrail) (bytes : List ℕ) → IsSaved t saved bytes → length bytes ≤ 2 ^ 24 → length saved.entries ≤ limit

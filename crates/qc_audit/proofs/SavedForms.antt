@@ -2,7 +2,7 @@
 use Rattle.std.proofs.Common.{◌≡◌, List, arith, length, refl, ◌∙◌}
 use Rattle.std.proofs.lemmas.List.{length-map}
 use Rattle.qc_codec.specs.Bodies.{made, table}
-use Rattle.qc_codec.specs.Fields.{word}
+use Rattle.qc_codec.specs.Fields.{current_format, word}
 use Rattle.qc_codec.specs.Ledger.{made_for}
 use Rattle.qc_config.specs.declared.tuple.Tuple.{Tuple}
 use Rattle.qc_event.specs.Base.{IsProper}
@@ -22,11 +22,11 @@ sizes t base many proper = record {
   records = λ copy d within. (proper.base.rows copy d within).same_records ∙ length-map t.records (λ (r : Row). r.config);
 }
 
-pub is_saved : (t : Table) (trail : SavedTrail) → (table 1).fits t → (saved.trail 1).fits trail → HasSizes t trail.base → IsSaved t trail (saved_text t trail)
+pub is_saved : (t : Table) (trail : SavedTrail) → (table current_format).fits t → (saved.trail current_format).fits trail → HasSizes t trail.base → IsSaved t trail (saved_text t trail)
 unfolding word
 is_saved t trail spelled fits has = record {
   front = made.spell (made_for 0 t);
-  back = (saved.trail 1).spell trail;
+  back = (saved.trail current_format).spell trail;
   parts = record { short = front_short t spelled; joined = refl };
   made = (refl, made_proper 0 t (omega arith) spelled);
   rest = (refl, fits);

@@ -1,7 +1,7 @@
 -- The saved form of a trail.
 use Rattle.std.specs.Prelude.{ℕ, ◌≡◌, ◌++◌, List, length, All}
 use Rattle.qc_codec.specs.Bodies as body
-use Rattle.qc_codec.specs.Fields.{word}
+use Rattle.qc_codec.specs.Fields.{current_format, word}
 use Rattle.qc_codec.specs.Gives.{Spells}
 use Rattle.qc_codec.specs.Ledger.{made_for}
 use Rattle.qc_config.specs.declared.tuple.Tuple.{Tuple}
@@ -14,7 +14,7 @@ use Rattle.qc_trail_codec.specs.declared.record.SavedTrail.{SavedTrail}
 abbrev pub saved_text : Table → SavedTrail → List ℕ
 saved_text table trail =
     let made = body.made.spell (made_for 0 table) in
-    word.spell (length made) ++ (made ++ (saved.trail 1).spell trail)
+    word.spell (length made) ++ (made ++ (saved.trail current_format).spell trail)
 
 -- Bytes are a front and a back, behind four bytes that tell how long the front is.
 pub record AreParts (bytes front back : List ℕ) : Type 0 where
@@ -33,5 +33,5 @@ pub record IsSaved (table : Table) (trail : SavedTrail) (bytes : List ℕ) : Typ
   pub back : List ℕ
   pub parts : AreParts bytes front back
   pub made : Spells body.made front (made_for 0 table)
-  pub rest : Spells (saved.trail 1) back trail
+  pub rest : Spells (saved.trail current_format) back trail
   pub sizes : HasSizes table trail.base

@@ -1,13 +1,14 @@
 //! What is saved of a run, so that it can be audited.
 ghost use Rattle.std.specs.Prelude.{◌≡◌, ◌<◌, ◌^◌, ◌++◌, IfOk, OnOk, length, reverse};
 ghost use Rattle.qc_codec.specs.Bodies as body;
-ghost use Rattle.qc_codec.specs.Fields.{word};
+ghost use Rattle.qc_codec.specs.Fields.{current_format, word};
 ghost use Rattle.qc_codec.specs.Gives.{Spells};
 ghost use Rattle.qc_codec.specs.Ledger.{made_for};
 ghost use Rattle.qc_event.specs.Base.{IsProper};
 ghost use Rattle.qc_event.specs.Legal.{Legal};
 ghost use Rattle.qc_event.specs.Tables.{setting_of};
 ghost use Rattle.qc_audit.specs.Saved.{IsSaved, saved_text};
+ghost use Rattle.qc_codec.specs.declared.record.Made.{Made};
 
 use crate::reading::LEDGER_DISK;
 use qc_codec::{FORMAT, Made, copy_table, put_word, write_made};
@@ -18,7 +19,7 @@ use std::alloc::{AllocError, Global};
 
 // How disk 0 of a table's store is made.
 fn front(alloc: Global, table: &Table) -> Result<Vec<u8>, AllocError>
-    requires { (body.table 1).fits table.now }
+    requires { (body.table current_format).fits table.now }
     ensures made { IfOk result (λ bytes. Spells body.made bytes.items (made_for 0 table.now)) }
     ensures short { IfOk result (λ bytes. length bytes.items < 2 ^ 32) }
 {
@@ -51,7 +52,7 @@ pub fn saved(
     base: &Base,
     trail: &Trail,
 ) -> Result<Vec<u8>, AllocError>
-    requires spelled { (body.table 1).fits table.now }
+    requires spelled { (body.table current_format).fits table.now }
     requires as_many { length base.now ≡ table.now.copies }
     requires proper { IsProper (setting_of table.now base.now) }
     requires legal { Legal (setting_of table.now base.now) (reverse trail.now) }

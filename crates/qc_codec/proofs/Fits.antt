@@ -22,7 +22,7 @@ use Rattle.qc_codec.specs.declared.record.BaseRecord.{BaseRecord}
 use Rattle.qc_codec.specs.declared.record.Made.{Made}
 use Rattle.qc_codec.specs.declared.record.LedgerRecord.TheVariants as ledger_record
 use Rattle.qc_codec.specs.Form.{byte, only}
-use Rattle.qc_codec.specs.Fields.{Layout, layout, half, word, long, name, number_datum, datum_by, datum, config, tuple, is_length, is_top, some_number, IsNumbered}
+use Rattle.qc_codec.specs.Fields.{config, current_format, datum, datum_by, half, is_length, is_top, layout, long, name, number_datum, some_number, tuple, word, Layout, IsNumbered}
 use Rattle.qc_codec.specs.Ledger.{made_for}
 use Rattle.qc_codec.specs.Bodies.{HasLengths, is_between, is_code, code_of, label, row, table, making, made, granted, grant, folded, base, below, top, ledger}
 
@@ -93,17 +93,22 @@ pub made_sized : (m : Made) → made.fits m → IsSized m.table
 unfolding made
 made_sized m fits = making_sized m fits
 
--- a made record is of the first format
-pub making_format : (m : Made) → making.fits m → m.format ≡ 1
-unfolding making
-making_format m fits = eqb-true m.format 1 fits.0.0.1
+-- a made record is of the current format
+pub made_current : (m : Made) → made.fits m → m.format ≡ current_format
+unfolding made making
+made_current m fits = eqb-true m.format current_format fits.0.0.1
 
-pub making_table : (m : Made) → making.fits m → (table 1).fits m.table
-unfolding making
-making_table m fits = subst (λ format. (table format).fits m.table) (making_format m fits) fits.0.1.1
+-- a table of any format fits the current one
+pub table_renewed : (m : Made) → made.fits m → (table current_format).fits m.table
+unfolding made making
+table_renewed m fits = subst (λ format. (table format).fits m.table) (made_current m fits) fits.0.1.1
+
+pub made_renewed : (m : Made) → made.fits m → made.fits (made_for m.who m.table)
+unfolding made making
+made_renewed m fits = (((omega arith, refl), (fits.0.1.0, table_renewed m fits)), tt)
 
 -- a proper table has a made record
-pub made_proper : (disk : ℕ) (t : Table) → disk < 256 → (table 1).fits t → made.fits (made_for disk t)
+pub made_proper : (disk : ℕ) (t : Table) → disk < 256 → (table current_format).fits t → made.fits (made_for disk t)
 unfolding made making
 made_proper disk t small fits = (((omega arith, refl), (small, fits)), tt)
 

@@ -1,25 +1,41 @@
 -- The base record of a journal, into which another was folded.
-use Rattle.std.specs.Prelude.{ℕ, ◌+◌, Bool, if◌then◌else◌, nat_lt, List, ◌∷◌, length, map, Option, None, unwrap_or}
+use Rattle.std.specs.Prelude.{ℕ, ◌+◌, Bool, if◌then◌else◌, nat_lt, List, [], ◌∷◌, length, map, Option, None, unwrap_or}
 use Rattle.std.specs.Option.{option_and_then, option_map}
 use Rattle.qc_config.specs.declared.tuple.Tuple.{Tuple}
 use Rattle.qc_event.specs.declared.table.Table.{Table}
 use Rattle.qc_event.specs.Tables.{first_tuple}
 use Rattle.qc_codec.specs.Bodies as body
-use Rattle.qc_codec.specs.Fields.{format_1}
+use Rattle.qc_codec.specs.Fields.{Layout, current, current_format, layout}
 use Rattle.qc_codec.specs.Form.{Form, all_of}
 use Rattle.qc_codec.specs.declared.record.BaseRecord.{BaseRecord}
 use Rattle.qc_codec.specs.declared.record.Made.{Made}
 
--- a base of a store of this table: a copy's has a tuple for each record, the ledger's none
-abbrev pub copy_base : Table → Form BaseRecord
-copy_base table = body.base (format_1 table.copies) (length table.records)
+-- how what stands behind a made record is laid out: by its table and in its format
+abbrev pub layout_of : Made → Layout
+layout_of made = layout made.table.copies made.format
 
-abbrev pub ledger_base : Table → Form BaseRecord
-ledger_base table = body.base (format_1 table.copies) 0
+-- a base behind a made record: a copy's has a tuple for each record of the table, the ledger's none
+abbrev pub copy_base : Made → Form BaseRecord
+copy_base made = body.base (layout_of made) (length made.table.records)
 
--- the base record of a journal's bodies, where there is one: it stands second, and is read by the table of its own made record
-abbrev pub base_in : (Table → Form BaseRecord) → List (List ℕ) → Option BaseRecord
-base_in form (first ∷ second ∷ bodies) = option_and_then (λ (made : Made). all_of (form made.table) second) (all_of body.made first)
+abbrev pub ledger_base : Made → Form BaseRecord
+ledger_base made = body.base (layout_of made) 0
+
+-- a base of a store of this table in the current format
+abbrev pub current_copy_base : Table → Form BaseRecord
+current_copy_base table = body.base (current table.copies) (length table.records)
+
+abbrev pub current_ledger_base : Table → Form BaseRecord
+current_ledger_base table = body.base (current table.copies) 0
+
+-- the format of a journal's bodies, which their made record tells; the current one where there are none
+abbrev pub format_in : List (List ℕ) → ℕ
+format_in [] = current_format
+format_in (first ∷ bodies) = unwrap_or (option_map (λ (made : Made). made.format) (all_of body.made first)) current_format
+
+-- the base record of a journal's bodies, where there is one: it stands second, and is read by the made record
+abbrev pub base_in : (Made → Form BaseRecord) → List (List ℕ) → Option BaseRecord
+base_in form (first ∷ second ∷ bodies) = option_and_then (λ (made : Made). all_of (form made) second) (all_of body.made first)
 base_in form _ = None
 
 -- the number of a base, 0 where there is none
@@ -36,7 +52,7 @@ tuples_of_base table base = unwrap_or (option_map (λ (b : BaseRecord). b.tuples
 
 -- PAIRS
 
-module _ (form : Table → Form BaseRecord) (own spare : List (List ℕ)) where
+module _ (form : Made → Form BaseRecord) (own spare : List (List ℕ)) where
   -- whether the spare's bodies are active: the number of their base is greater
   abbrev pub is_swapped : Bool
   is_swapped = nat_lt (number_of_base (base_in form own)) (number_of_base (base_in form spare))

@@ -3,18 +3,26 @@ use Rattle.std.specs.Prelude.{ℕ, ◌≡◌, ◌≢◌, ◌<◌, ◌≤◌, ◌
 use Rattle.qc_event.specs.declared.event.Grant.{Grant}
 use Rattle.qc_event.specs.declared.table.Table.{Table}
 use Rattle.qc_event.specs.History.{Name}
-use Rattle.qc_codec.specs.Base.{base_in, copy_base, epoch_of_base}
+use Rattle.qc_codec.specs.Base.{base_in, copy_base, epoch_of_base, format_in}
 use Rattle.qc_codec.specs.Bodies as body
-use Rattle.qc_codec.specs.Fields.{format_1}
+use Rattle.qc_codec.specs.Fields.{current_format, layout}
 use Rattle.qc_codec.specs.Form.{Form, all_of}
 use Rattle.qc_codec.specs.Ledger.{IsOld, epoch_in, readings}
 use Rattle.qc_codec.specs.Order.{EachMay, FirstMayNot}
 use Rattle.qc_codec.specs.declared.past.Past.{Past}
 use Rattle.qc_codec.specs.declared.record.Made.{Made}
 
--- the form of what a table's copies granted
+-- the form of what a table's copies granted, in a format
+abbrev pub grant_in : ℕ → Table → Form Grant
+grant_in format table = body.grant (layout table.copies format)
+
+-- and in the current one
 abbrev pub grant_form : Table → Form Grant
-grant_form table = body.grant (format_1 table.copies)
+grant_form table = grant_in current_format table
+
+-- what a journal's bodies tell that a copy granted, each in their format
+abbrev pub granted_in : Table → List (List ℕ) → List Grant
+granted_in table bodies = readings (grant_in (format_in bodies) table) bodies
 
 -- a name is below a top of a later epoch
 abbrev pub IsLater : ℕ → Name → Type 0
@@ -33,7 +41,7 @@ IsMadeOf disk made = made.who ≡ disk
 module _ (disk : ℕ) (table : Table) (past : Past) where
   -- a body is a grant that may stand behind these
   abbrev pub IsNextBody : List (List ℕ) → List ℕ → Type 0
-  IsNextBody bodies bytes = MatchOption (all_of (grant_form table) bytes) ⊥ (MayFollow table past (epoch_of_base (base_in copy_base bodies)) (readings (grant_form table) bodies))
+  IsNextBody bodies bytes = MatchOption (all_of (grant_in (format_in bodies) table) bytes) ⊥ (MayFollow table past (epoch_of_base (base_in copy_base bodies)) (granted_in table bodies))
 
   -- a body may stand behind others: the first tells how the disk was made, the second may be a base of no later epoch than the
   -- ledger's last, and each further one is a grant

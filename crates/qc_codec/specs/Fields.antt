@@ -18,9 +18,13 @@ pub record Layout : Type 0 where
 abbrev pub layout : ℕ → ℕ → Layout
 layout copies format = record { copies = copies; format = format }
 
--- for so many copies in format 1
-abbrev pub format_1 : ℕ → Layout
-format_1 copies = layout copies 1
+-- the format in which journals and trails are written
+abbrev pub current_format : ℕ
+current_format = 1
+
+-- for so many copies in the current format
+abbrev pub current : ℕ → Layout
+current copies = layout copies current_format
 
 unfoldable pub half : Form ℕ
 half = number w16 (2 ^ 16)

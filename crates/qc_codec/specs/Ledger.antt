@@ -12,6 +12,7 @@ use Rattle.qc_event.specs.History.{Name}
 use Rattle.qc_event.specs.Seats.{ledger_seat}
 use Rattle.qc_codec.specs.Base.{base_in, epoch_of_base, ledger_base}
 use Rattle.qc_codec.specs.Bodies as body
+use Rattle.qc_codec.specs.Fields.{current_format}
 use Rattle.qc_codec.specs.Form.{Form, all_of}
 use Rattle.qc_codec.specs.Order.{EachMay, FirstMayNot}
 use Rattle.qc_codec.specs.declared.past.Logged.{Logged}
@@ -21,9 +22,13 @@ use Rattle.qc_codec.specs.declared.record.LedgerRecord.{LedgerRecord}
 use Rattle.qc_codec.specs.declared.record.LedgerRecord.TheVariants as ledger_record
 use Rattle.qc_codec.specs.declared.record.Made.{Made}
 
--- how the disk of a number was made, for a store of this table
+-- how the disk of a number was made in a format, for a store of this table
+abbrev pub made_in : ℕ → ℕ → Table → Made
+made_in format number table = record { format = format; who = number; table = table }
+
+-- how it is made in the current one
 abbrev pub made_for : ℕ → Table → Made
-made_for number table = record { format = 1; who = number; table = table }
+made_for number table = made_in current_format number table
 
 -- the ledger's record of a top
 abbrev pub record_of_top : Logged → LedgerRecord

@@ -31,6 +31,18 @@ impl Cursor<'_> {
         Ok(number)
     }
 
+    // The epoch of a base.
+    fn base_epoch(&mut self, format: u8) -> Result<u32, CodecNo>
+        ensures taken { Reads (body.base_epoch format) result self.old self.new }
+        ensures only_bad { IfErr result (λ e. e ≡ Bad) }
+    {
+        let epoch = self.word()?;
+        if format == 1 && epoch == 0 {
+            return Err(CodecNo::Bad);
+        }
+        Ok(epoch)
+    }
+
     // So many tuples.
     fn tuples(
         &mut self,
@@ -63,7 +75,7 @@ impl Cursor<'_> {
         ensures { Reads (body.folded (layout copies format) records) result self.old self.new }
     {
         let number = self.fold()?;
-        let epoch = self.some_number()?;
+        let epoch = self.base_epoch(format)?;
         let tuples = self.tuples(alloc, copies, format, records)?;
         Ok(BaseRecord {
             number,

@@ -6,6 +6,7 @@ ghost use Rattle.std.specs.Str.{bytes_eq};
 ghost use Rattle.qc_codec.specs.Bodies as body;
 ghost use Rattle.qc_codec.specs.Fields.{layout};
 ghost use Rattle.qc_codec.specs.Gives.{Reads, ReadsEach, ReadsAll, Spells, SpellsNone, Puts, PutsEach};
+ghost use Rattle.qc_codec.specs.Ledger.{made_for};
 ghost use Rattle.qc_codec.specs.declared.fault.CodecNo.TheVariants.{Bad};
 
 use crate::cursor::Cursor;
@@ -24,7 +25,7 @@ const RECORDS: u8 = 64;
 /// The most bytes of a record's name.
 const LETTERS: u8 = 16;
 
-/// The format in which journals are made.
+/// The format in which journals and trails are written.
 pub const FORMAT: u8 = 1;
 
 // Whether all bytes are letters and digits.
@@ -202,18 +203,26 @@ fn put_rows(out: &mut Vec<u8>, copies: u8, format: u8, rows: &[Row]) -> Result<(
     Ok(())
 }
 
+#[tactic(auto, unfolding(crate::specs::Bodies::table))]
+fn put_table(out: &mut Vec<u8>, format: u8, table: &Table) -> Result<(), AllocError>
+    requires { (body.table format).fits table.now }
+    ensures { Puts (body.table format) table.now result out.old.items out.new.items }
+{
+    let rows = table.records.as_slice();
+    out.push(table.copies)?;
+    out.push(rows.len() as u8)?;
+    put_rows(out, table.copies, format, rows)
+}
+
 /// What stands behind the first byte of a made record.
-#[tactic(auto, unfolding(crate::specs::Bodies::making, crate::specs::Bodies::table))]
+#[tactic(auto, unfolding(crate::specs::Bodies::making))]
 pub(crate) fn put_making(out: &mut Vec<u8>, made: &Made) -> Result<(), AllocError>
     requires { body.making.fits made.now }
     ensures { Puts body.making made.now result out.old.items out.new.items }
 {
-    let rows = made.table.records.as_slice();
     out.push(made.format)?;
     out.push(made.who)?;
-    out.push(made.table.copies)?;
-    out.push(rows.len() as u8)?;
-    put_rows(out, made.table.copies, made.format, rows)
+    put_table(out, made.format, &made.table)
 }
 
 /// The bytes of a made record.
@@ -224,6 +233,20 @@ pub fn write_made(alloc: Global, made: &Made) -> Result<Vec<u8>, AllocError>
 {
     let mut out = vec![in alloc; 1]?;
     put_making(&mut out, made)?;
+    Ok(out)
+}
+
+/// The bytes of a made record of the same disk and table in the current format.
+#[tactic(auto, unfolding(crate::specs::Bodies::made, crate::specs::Bodies::making))]
+pub fn write_made_anew(alloc: Global, made: &Made) -> Result<Vec<u8>, AllocError>
+    requires proper { body.made.fits made.now }
+    ensures { IfOk result (λ bytes. Spells body.made bytes.items
+        (made_for made.now.who made.now.table)) }
+{
+    let mut out = vec![in alloc; 1]?;
+    out.push(FORMAT)?;
+    out.push(made.who)?;
+    put_table(&mut out, FORMAT, &made.table)?;
     Ok(out)
 }
 

@@ -8,8 +8,9 @@ use Rattle.std.proofs.lemmas.List.{drop_more, length-map, map-append, map_push, 
 use Rattle.qc_event.specs.declared.table.Table.{Table}
 use Rattle.qc_codec.specs.Base.{base_in, ledger_base}
 use Rattle.qc_codec.specs.Bodies as body
-use Rattle.qc_codec.specs.Fields.{format_1}
+use Rattle.qc_codec.specs.Fields.{Layout}
 use Rattle.qc_codec.specs.Form.{all_of}
+use Rattle.qc_codec.specs.Gives.{Spells}
 use Rattle.qc_codec.specs.Ledger.{AreInOrder, IsMade, IsNextBody, MayFollow, MayStand, made_for, past_in}
 use Rattle.qc_codec.specs.declared.image.ImageFault.{ImageFault}
 use Rattle.qc_codec.specs.declared.image.ImageFault.TheVariants.{Broken, Grammar, Full, Table as OtherTable, Epoch}
@@ -18,15 +19,15 @@ use Rattle.qc_codec.specs.declared.record.BaseRecord.{BaseRecord}
 use Rattle.qc_codec.specs.declared.record.Made.{Made}
 use Rattle.qc_codec.specs.declared.record.LedgerRecord.{LedgerRecord}
 use Rattle.qc_codec.specs.declared.record.LedgerRecord.TheVariants as ledger_record
-use Rattle.qc_codec.proofs.Bases.{made_is, made_spelled}
+use Rattle.qc_codec.proofs.Bases.{made_spelled}
 use Rattle.qc_codec.proofs.Bodies.{exact_ledger, exact_made, made_fits_ledger}
 use Rattle.qc_codec.proofs.Exact.{all_again}
-use Rattle.qc_codec.proofs.Fits.{made_fits}
+use Rattle.qc_codec.proofs.Fits.{made_fits, made_renewed}
 use Rattle.qc_codec.proofs.Order.{each_none, each_push}
 use Rattle.qc_event.specs.declared.short.Short.TheVariants.{Memory, Room}
 use Rattle.qc_journal.specs.Image.{bodies_of}
 use Rattle.qc_ledger.specs.Image.{made_body, AreMadeFor, IsLedgerFault}
-use Rattle.qc_ledger.specs.Reading.{AreRead, IsFirstBad, IsLaterBad, IsMadeOver}
+use Rattle.qc_ledger.specs.Reading.{AreRead, IsFirstBad, IsLaterBad, IsMadeBy}
 use Rattle.qc_ledger.specs.Seen.{HasNumbers, told_by, with_base, with_body}
 use Rattle.qc_ledger.specs.declared.seen.Seen.{Seen}
 use Rattle.qc_ledger.specs.Refusing.{IsOfLedgerImage, IsOfBytes}
@@ -37,22 +38,25 @@ use Rattle.qc_ledger.proofs.Told.{base_front, base_no_record, base_read, by_stan
 
 -- HOW THE LEDGER WAS MADE
 
--- a made record is read from its body
+-- a made record is read from its body in the current format
 pub made_again : (m : Made) → body.made.fits m → all_of body.ledger (made_body m.who m.table) ≡ Some (ledger_record.Made (made_for m.who m.table))
 made_again m fits =
     let own = made_for m.who m.table in
-    all_again body.ledger exact_ledger (ledger_record.Made own) (made_fits_ledger own (subst body.made.fits (made_is m fits) fits))
+    all_again body.ledger exact_ledger (ledger_record.Made own) (made_fits_ledger own (made_renewed m fits))
 
 -- and as one of a disk
 pub made_alone : (m : Made) → body.made.fits m → all_of body.made (made_body m.who m.table) ≡ Some (made_for m.who m.table)
 made_alone m fits =
     let own = made_for m.who m.table in
-    ap (all_of body.made) (made_spelled own) ∙ all_again body.made exact_made own (subst body.made.fits (made_is m fits) fits)
+    ap (all_of body.made) (made_spelled own) ∙ all_again body.made exact_made own (made_renewed m fits)
 
--- a record that says how a ledger was made says no more than its disk and table
-pub made_alike : (m : Made) → body.ledger.fits (ledger_record.Made m) → m ≡ made_for m.who m.table
+-- what is one of the ledger's is one of a disk
+pub made_of_disk : (m : Made) → body.ledger.fits (ledger_record.Made m) → body.made.fits m
 unfolding body.made
-made_alike m fits = made_is m (made_fits m fits)
+made_of_disk m fits = made_fits m fits
+
+pub made_read : (m : Made) (bytes : List ℕ) → Spells body.ledger bytes (ledger_record.Made m) → all_of body.made bytes ≡ Some m
+made_read m bytes spells = ap (all_of body.made) (spells.0 ∙ made_spelled m) ∙ all_again body.made exact_made m (made_of_disk m spells.1)
 
 -- FAULTS
 
@@ -161,16 +165,16 @@ alone_read disk [] seen one may told numbers = absurd (omega (arith, one))
 alone_read disk (v ∷ []) seen one may told numbers = one_read disk (v ∷ []) seen (omega arith) may refl told numbers
 alone_read disk (v ∷ w ∷ bodies) seen one may told numbers = absurd (omega (arith, one))
 
-module _ (disk copies : ℕ) (v : Vec ℕ Global) (bytes : List ℕ) (same : bytes ≡ v.items) (seen : Seen) where
+module _ (disk : ℕ) (layout : Layout) (v : Vec ℕ Global) (bytes : List ℕ) (same : bytes ≡ v.items) (seen : Seen) where
   -- what the second is as a base
   abbrev as_base : Option BaseRecord
-  as_base = all_of (body.base (format_1 copies) 0) bytes
+  as_base = all_of (body.base layout 0) bytes
 
-  second_is : (f s : Vec ℕ Global) (bodies : List (List ℕ)) → v ≡ s → IsMadeOver copies f.items → base_in ledger_base (f.items ∷ s.items ∷ bodies) ≡ as_base
-  second_is f s bodies is over = base_read copies f.items s.items bodies over ∙ ap (all_of (body.base (format_1 copies) 0)) (ap (λ (w : Vec ℕ Global). w.items) (sym is) ∙ sym same)
+  second_is : (f s : Vec ℕ Global) (bodies : List (List ℕ)) → v ≡ s → IsMadeBy layout f.items → base_in ledger_base (f.items ∷ s.items ∷ bodies) ≡ as_base
+  second_is f s bodies is over = base_read layout f.items s.items bodies over ∙ ap (all_of (body.base layout 0)) (ap (λ (w : Vec ℕ Global). w.items) (sym is) ∙ sym same)
 
   -- it is one
-  pub two_read : (bodies : List (Vec ℕ Global)) → 1 < length bodies → v ≡ get_or bodies 1 v → MayStand disk [] (slice_index_or (bodies_of bodies) 0 []) → IsMadeOver copies (slice_index_or (bodies_of bodies) 0 [])
+  pub two_read : (bodies : List (Vec ℕ Global)) → 1 < length bodies → v ≡ get_or bodies 1 v → MayStand disk [] (slice_index_or (bodies_of bodies) 0 []) → IsMadeBy layout (slice_index_or (bodies_of bodies) 0 [])
       → is_some as_base ≡ true → told_by seen ≡ with_base (past_in []) as_base → HasNumbers seen → AreRead disk bodies seen 2
   two_read [] within is may over took told numbers = absurd (omega (arith, within))
   two_read (f ∷ []) within is may over took told numbers = absurd (omega (arith, within))
@@ -180,7 +184,7 @@ module _ (disk copies : ℕ) (v : Vec ℕ Global) (bytes : List ℕ) (same : byt
       by None reads none = absurd (true≢false (sym none))
       by (Some b) reads one =
           let behind : base_in ledger_base (f.items ∷ s.items ∷ []) ≡ Some b = second_is f s [] is over ∙ reads in
-          let none : all_of body.ledger s.items ≡ None = ap (all_of body.ledger) (ap (λ (w : Vec ℕ Global). w.items) (sym is) ∙ sym same) ∙ base_no_record (format_1 copies) bytes b reads in
+          let none : all_of body.ledger s.items ≡ None = ap (all_of body.ledger) (ap (λ (w : Vec ℕ Global). w.items) (sym is) ∙ sym same) ∙ base_no_record layout bytes b reads in
           record {
             some = omega arith;
             within = omega (arith, within);
@@ -191,7 +195,7 @@ module _ (disk copies : ℕ) (v : Vec ℕ Global) (bytes : List ℕ) (same : byt
           }
 
   -- it is none
-  pub no_base_read : (bodies : List (Vec ℕ Global)) → 1 < length bodies → v ≡ get_or bodies 1 v → MayStand disk [] (slice_index_or (bodies_of bodies) 0 []) → IsMadeOver copies (slice_index_or (bodies_of bodies) 0 [])
+  pub no_base_read : (bodies : List (Vec ℕ Global)) → 1 < length bodies → v ≡ get_or bodies 1 v → MayStand disk [] (slice_index_or (bodies_of bodies) 0 []) → IsMadeBy layout (slice_index_or (bodies_of bodies) 0 [])
       → is_some as_base ≡ false → told_by seen ≡ with_base (past_in []) as_base → HasNumbers seen → AreRead disk bodies seen 1
   no_base_read [] within is may over took told numbers = absurd (omega (arith, within))
   no_base_read (f ∷ []) within is may over took told numbers = absurd (omega (arith, within))

@@ -7,9 +7,9 @@ use Rattle.std.specs.Option.{option_and_then, option_map}
 use Rattle.std.proofs.lemmas.Bool.{eqb-true}
 use Rattle.std.proofs.lemmas.List.Elements.{filter_map-append}
 use Rattle.qc_event.proofs.Lists.{last_push}
-use Rattle.qc_codec.specs.Base.{base_in, epoch_of_base, ledger_base}
+use Rattle.qc_codec.specs.Base.{base_in, epoch_of_base, layout_of, ledger_base}
 use Rattle.qc_codec.specs.Bodies as body
-use Rattle.qc_codec.specs.Fields.{Layout, format_1}
+use Rattle.qc_codec.specs.Fields.{Layout}
 use Rattle.qc_codec.specs.Form.{Form, all_of, marked}
 use Rattle.qc_codec.specs.Ledger.{IsMade, IsNextBody, MayStand, logged_in, past_in, readings}
 use Rattle.qc_codec.specs.declared.past.Logged.{Logged}
@@ -18,7 +18,7 @@ use Rattle.qc_codec.specs.declared.record.BaseRecord.{BaseRecord}
 use Rattle.qc_codec.specs.declared.record.LedgerRecord.{LedgerRecord}
 use Rattle.qc_codec.specs.declared.record.LedgerRecord.TheVariants.{Made, Epoch, Top}
 use Rattle.qc_codec.specs.declared.record.Made.{Made as MadeRecord}
-use Rattle.qc_ledger.specs.Reading.{IsMadeOver}
+use Rattle.qc_ledger.specs.Reading.{IsMadeBy}
 use Rattle.qc_ledger.specs.Seen.{with_base, with_body}
 
 abbrev last_epoch : Option BaseRecord → List LedgerRecord → ℕ
@@ -96,13 +96,13 @@ pub base_no_record : (layout : Layout) (bytes : List ℕ) (b : BaseRecord) → a
 unfolding body.base body.ledger
 base_no_record layout bytes b is = let front = marked_front 4 (body.folded layout 0) bytes b is in ap (all_of body.ledger) front.1
 
--- what stands second is read by the copies of the made record
-pub base_read : (copies : ℕ) (first second : List ℕ) (bodies : List (List ℕ)) → IsMadeOver copies first → base_in ledger_base (first ∷ second ∷ bodies) ≡ all_of (body.base (format_1 copies) 0) second
-base_read copies first second bodies over = by (all_of body.made first) over
+-- what stands second is read by the layout of the made record
+pub base_read : (layout : Layout) (first second : List ℕ) (bodies : List (List ℕ)) → IsMadeBy layout first → base_in ledger_base (first ∷ second ∷ bodies) ≡ all_of (body.base layout 0) second
+base_read layout first second bodies over = by (all_of body.made first) over
   where
-    by : (o : Option MadeRecord) → MatchOption o ⊥ (λ (made : MadeRecord). made.table.copies ≡ copies) → option_and_then (λ (made : MadeRecord). all_of (ledger_base made.table) second) o ≡ all_of (body.base (format_1 copies) 0) second
+    by : (o : Option MadeRecord) → MatchOption o ⊥ (λ (made : MadeRecord). layout_of made ≡ layout) → option_and_then (λ (made : MadeRecord). all_of (ledger_base made) second) o ≡ all_of (body.base layout 0) second
     by None of = absurd of
-    by (Some made) of = ap (λ (n : ℕ). all_of (body.base (format_1 n) 0) second) of
+    by (Some made) of = ap (λ (l : Layout). all_of (body.base l 0) second) of
 
 -- what the first two tell where the second is a base
 pub past_base : (disk : ℕ) (first second : List ℕ) (b : BaseRecord) → base_in ledger_base (first ∷ second ∷ []) ≡ Some b → all_of body.ledger second ≡ None → MatchOption (all_of body.ledger first) ⊥ (IsMade disk) → past_in (first ∷ second ∷ []) ≡ with_base (past_in []) (Some b)

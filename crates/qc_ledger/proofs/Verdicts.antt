@@ -5,7 +5,7 @@ use Rattle.std.proofs.lemmas.Bool.{cases_eq}
 use Rattle.qc_event.specs.declared.table.Table.{Table}
 use Rattle.qc_codec.specs.Bodies as body
 use Rattle.qc_codec.specs.Form.{all_of}
-use Rattle.qc_codec.specs.Ledger.{IsMade, IsOutOfOrder, MayStand, made_for}
+use Rattle.qc_codec.specs.Ledger.{IsMade, IsOutOfOrder, MayStand, made_in}
 use Rattle.qc_codec.specs.declared.image.ImageFault.{ImageFault}
 use Rattle.qc_codec.specs.declared.image.ImageFault.TheVariants.{Broken, Grammar, Full, Table as OtherTable, Epoch}
 use Rattle.qc_codec.specs.declared.record.Made.{Made}
@@ -21,8 +21,8 @@ use Rattle.qc_ledger.specs.Image.{AreMadeFor, AreMountableAsLedger, IsLedgerFaul
 same_table : (disk : ℕ) (bodies : List (List ℕ)) (t k : Table) → bodies ≢ [] → AreMadeFor disk t bodies → AreMadeFor disk k bodies → k ≡ t
 same_table disk [] t k some one two = absurd (some refl)
 same_table disk (first ∷ bodies) t k some one two =
-    let both : Some (ledger_record.Made (made_for disk k)) ≡ Some (ledger_record.Made (made_for disk t)) = sym two ∙ one in
-    let made : made_for disk k ≡ made_for disk t = cc in
+    let both : Some (ledger_record.Made (made_in two.0 disk k)) ≡ Some (ledger_record.Made (made_in one.0 disk t)) = sym two.1 ∙ one.1 in
+    let made : made_in two.0 disk k ≡ made_in one.0 disk t = cc in
     ap (λ (m : Made). m.table) made
 
 first_stands : (disk : ℕ) (bodies : List (List ℕ)) (k : Table) (i : ℕ) → AreMadeFor disk k bodies → IsOutOfOrder disk i bodies → i ≡ 0 → ⊥
@@ -31,9 +31,9 @@ first_stands disk bodies k i made out none = by bodies out.before out.after out.
     by : (bs before after : List (List ℕ)) (bytes : List ℕ) → AreMadeFor disk k bs → bs ≡ before ++ bytes ∷ after → length before ≡ 0 → (MayStand disk before bytes → ⊥) → ⊥
     by [] [] after bytes m split size breaks = absurd cc
     by [] (b ∷ before) after bytes m split size breaks = absurd cc
-    by (f ∷ bs) [] after bytes m split size breaks = let same : f ≡ bytes = cc in breaks (stands bytes (subst (λ (x : List ℕ). all_of body.ledger x ≡ Some (ledger_record.Made (made_for disk k))) same m))
+    by (f ∷ bs) [] after bytes m split size breaks = let same : f ≡ bytes = cc in breaks (stands bytes (subst (λ (x : List ℕ). all_of body.ledger x ≡ Some (ledger_record.Made (made_in m.0 disk k))) same m.1))
       where
-        stands : (x : List ℕ) → all_of body.ledger x ≡ Some (ledger_record.Made (made_for disk k)) → MayStand disk [] x
+        stands : (x : List ℕ) → all_of body.ledger x ≡ Some (ledger_record.Made (made_in m.0 disk k)) → MayStand disk [] x
         stands x is = subst (λ o. MatchOption o ⊥ (IsMade disk)) (sym is) refl
     by (f ∷ bs) (b ∷ before) after bytes m split size breaks = absurd (omega (arith, size))
 

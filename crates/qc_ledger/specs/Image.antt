@@ -3,7 +3,7 @@ use Rattle.std.specs.Prelude.{ℕ, ◌≡◌, ◌≢◌, ◌+◌, ◌-◌, ◌<�
 use Rattle.qc_event.specs.declared.table.Table.{Table}
 use Rattle.qc_codec.specs.Bodies as body
 use Rattle.qc_codec.specs.Form.{Form, all_of}
-use Rattle.qc_codec.specs.Ledger.{made_for, past_in, AreInOrder, IsOutOfOrder}
+use Rattle.qc_codec.specs.Ledger.{made_for, made_in, past_in, AreInOrder, IsOutOfOrder}
 use Rattle.qc_codec.specs.declared.image.ImageFault.{ImageFault}
 use Rattle.qc_codec.specs.declared.image.ImageFault.TheVariants.{Broken, Grammar, Full, Table as OtherTable, Epoch}
 use Rattle.qc_codec.specs.declared.record.LedgerRecord.TheVariants as ledger_record
@@ -36,9 +36,9 @@ abbrev pub BeginWith : {R : Type 0} → Form R → R → List (List ℕ) → Typ
 BeginWith form made [] = Unit {0}
 BeginWith form made (first ∷ bodies) = all_of form first ≡ Some made
 
--- it says that a disk of the ledger's was made for a table
+-- it says in some format that a disk of the ledger's was made for a table
 abbrev pub AreMadeFor : ℕ → Table → List (List ℕ) → Type 0
-AreMadeFor disk table = BeginWith body.ledger (ledger_record.Made (made_for disk table))
+AreMadeFor disk table bodies = (format : ℕ) × BeginWith body.ledger (ledger_record.Made (made_in format disk table)) bodies
 
 -- Of bodies that are written one behind another, behind these, the first that would pass the limit goes to this place.
 abbrev pub IsFull : ℕ → List (List ℕ) → List (List ℕ) → ℕ → Type 0

@@ -1,7 +1,9 @@
 //! Mounting the ledger's pair.
 ghost use Rattle.std.specs.Prelude.{ℕ, ◌≡◌, ◌<◌, ◌+◌, [], ◌∷◌, ◌++◌, not, false, true, IfOk, IfErr, OnOk, IsErrOf, IsErrAnd, Err};
 ghost use Rattle.qc_codec.specs.Bodies as body;
+ghost use Rattle.qc_codec.specs.Fields.{current_format};
 ghost use Rattle.qc_codec.specs.Ledger.{made_for, past_in};
+ghost use Rattle.qc_codec.specs.declared.record.Made.{Made};
 ghost use Rattle.qc_journal.specs.Image.{bodies_of};
 ghost use Rattle.qc_journal.specs.Journal.{disk_of, limit_of, IsUp};
 ghost use Rattle.qc_journal.specs.declared.fault.Fault.TheVariants.{Full};
@@ -115,7 +117,7 @@ fn write_both<D: Disk>(
 
 /// How the ledger's disk of this number is made for a table, and the body that says so.
 pub(crate) fn made_of(alloc: Global, who: u8, table: &Table) -> Result<(Made, Body), LedgerNo>
-    requires proper { (body.table 1).fits table.now }
+    requires proper { (body.table current_format).fits table.now }
     ensures made { IfOk result (λ made. made.0 ≡ made_for who table.now) }
     ensures body { IfOk result (λ made. made.1.items ≡ made_body who table.now) }
     ensures memory { IfErr result (λ no. no ≡ LedgerNo.Short Short.Memory) }
@@ -139,7 +141,7 @@ struct Plan {
 
 // What bodies tell, and what a mounting writes behind them.
 fn plan_of(alloc: Global, who: u8, bodies: &[Body], table: &Table) -> Result<Plan, LedgerNo>
-    requires proper { (body.table 1).fits table.now }
+    requires proper { (body.table current_format).fits table.now }
     ensures past { IfOk result (λ plan. plan.past ≡ past_in (bodies_of bodies.now)) }
     ensures last { IfOk result (λ plan. plan.past.epoch < LAST_EPOCH) }
     ensures ledgers { OnOk result (AreLedgers who table.now (bodies_of bodies.now)) }
@@ -167,7 +169,7 @@ pub(crate) fn begin<D: Disk>(
     table: &Table,
 ) -> Result<Past, LedgerNo>
     requires up { IsUp journal.old }
-    requires proper { (body.table 1).fits table.now }
+    requires proper { (body.table current_format).fits table.now }
     ensures up { OnOk result (IsUp journal.new) }
     ensures past { IfOk result (λ past. past ≡ past_in (bodies_of bodies.old.items)) }
     ensures epoch { IfOk result (λ past. past.epoch < LAST_EPOCH) }
@@ -197,7 +199,7 @@ pub(crate) fn begin<D: Disk>(
 
 // The body that says how the disk is made that is not active.
 fn made_other<D: Disk>(alloc: Global, pair: &Pair<D>, table: &Table) -> Result<Body, PairNo>
-    requires proper { (body.table 1).fits table.now }
+    requires proper { (body.table current_format).fits table.now }
     ensures body { IfOk result (λ made. made.items ≡ made_body
         (number_at (not (swapped pair.now)) 0) table.now) }
     ensures memory { IfErr result (λ no. no ≡ PairNo.Memory) }
@@ -228,7 +230,7 @@ pub fn mount_pair<D: Disk>(
     table: &Table,
     limit: u64,
 ) -> Result<(Book<D>, Fold<D>, Past, u32), (D, D, PairNo)>
-    requires proper { (body.table 1).fits table.now }
+    requires proper { (body.table current_format).fits table.now }
 
     // The past is what the records tell that were found on the active disk, and the epoch, which stands behind them, is
     // the next. Where that disk tells its bytes, each image has them from now on. The other keeps what it had.

@@ -6,11 +6,12 @@ use Rattle.qc_config.specs.declared.tuple.Tuple.{Tuple}
 use Rattle.qc_disk.specs.declared.disk.Disk.{Ghosts}
 use Rattle.qc_codec.specs.Base.{base_in, copy_base, tuples_of_base}
 use Rattle.qc_codec.specs.Bodies as body
-use Rattle.qc_codec.specs.Copy.{grant_form}
-use Rattle.qc_codec.specs.Ledger.{made_for, readings}
+use Rattle.qc_codec.specs.Copy.{granted_in}
+use Rattle.qc_codec.specs.Ledger.{made_for}
 use Rattle.qc_codec.specs.Restored.{restored_row}
 use Rattle.qc_codec.specs.declared.past.Past.{Past}
 use Rattle.qc_codec.proofs.Bases.{made_spelled}
+use Rattle.qc_codec.specs.Fields.{current_format}
 use Rattle.qc_event.specs.declared.table.Table.{Table}
 use Rattle.qc_desk.specs.Held.{from_row}
 use Rattle.qc_journal.specs.Image.{HasRecords}
@@ -37,7 +38,7 @@ use Rattle.qc_pair.specs.Opening.{HaveActive}
 use Rattle.qc_pair.specs.Pair.{number_at}
 use Rattle.qc_pair.specs.declared.fold.Fold.{Fold}
 use Rattle.qc_pair.specs.declared.kind.Kind.TheVariants as kind
-use Rattle.qc_site.specs.Image.{to_write, AreGranted, AreMountableAsCopy}
+use Rattle.qc_site.specs.Image.{to_write, AreGranted, AreMadeIn, AreMountableAsCopy}
 use Rattle.qc_site.specs.Mounted as copy
 use Rattle.qc_site.specs.Start.{start_of}
 use Rattle.qc_system.specs.Pairs.{own_then_spares}
@@ -49,6 +50,7 @@ mounts_as : (disk disk' : ℕ) (table : Table) (past : Past) (limit : ℕ) (told
     → copy.MountsCopy disk' table past limit told' records'
 mounts_as disk disk' table past limit told told' records records' of_disk of_told of_records m = record {
   found = m.found;
+  now = subst (λ d. AreMadeIn d table current_format m.found) (sym of_disk) m.now;
   granted = subst (λ d. AreGranted d table past m.found) (sym of_disk) m.granted;
   fine = subst (λ o. IfSome o (λ bytes. HasRecords m.found bytes × AreMountableAsCopy disk' table past limit m.found)) (sym of_told)
       (subst (λ d. IfSome told (λ bytes. HasRecords m.found bytes × AreMountableAsCopy d table past limit m.found)) (sym of_disk) m.fine);
@@ -247,7 +249,7 @@ module _ {D : Type 0} {g : Ghosts D} (table : Table) (told : List (Option (List 
     abbrev swapped : ℕ → Bool
     swapped = swapped_found parts.ledger items
 
-    module _ (proper : (body.table 1).fits table) (small : parts.epoch < 2 ^ 32) (ledger_bytes : AreBytes (book.records_of parts.ledger.book)) (copies_bytes : All (λ p. AreBytes (copy.records_of p.copy)) items) where
+    module _ (proper : (body.table current_format).fits table) (small : parts.epoch < 2 ^ 32) (ledger_bytes : AreBytes (book.records_of parts.ledger.book)) (copies_bytes : All (λ p. AreBytes (copy.records_of p.copy)) items) where
       pair_bytes : (pair : ℕ) → pair ≤ table.copies → AreBytes (records pair)
       pair_bytes zero low = ledger_bytes
       pair_bytes (suc i) low =
@@ -276,12 +278,12 @@ module _ {D : Type 0} {g : Ghosts D} (table : Table) (told : List (Option (List 
           (active_told_is table told parts.ledger items counts (i + 1) pair.fold (copy.journal_of pair.copy) (copy.records_of pair.copy) at.disks at_pair) at_pair.bodies_are at.is_copy.mounts.mounts
 
       copy_starts : (i : ℕ) → i < table.copies
-          → slice_index_or base i [] ≡ restored_row parts.past.tops (length table.records) (from_row (tuples_of_base table (base_in copy_base (records (i + 1))))) (readings (grant_form table) (records (i + 1)))
+          → slice_index_or base i [] ≡ restored_row parts.past.tops (length table.records) (from_row (tuples_of_base table (base_in copy_base (records (i + 1))))) (granted_in table (records (i + 1)))
       copy_starts i there =
           let (pair, is, at) = some_copy i there in
           ap (λ l. get_or l i []) rows
           ∙ (at.start
-          ∙ (at.is_copy.start ∙ ap (λ bs. restored_row parts.past.tops (length table.records) (from_row (tuples_of_base table (base_in copy_base bs))) (readings (grant_form table) bs)) (sym at.at.bodies_are)))
+          ∙ (at.is_copy.start ∙ ap (λ bs. restored_row parts.past.tops (length table.records) (from_row (tuples_of_base table (base_in copy_base bs))) (granted_in table bs)) (sym at.at.bodies_are)))
 
       actives_mounted : MountedOn (active_number swapped) table (of_active table swapped (told_by told)) records parts.epoch base
       actives_mounted = record { past = parts.past; limit = λ n. store.limit; proper = proper; small = small; bytes = pair_bytes; ledger = ledger_mounts; copies = copy_mounts; as_many = as_many; starts = copy_starts }
@@ -314,19 +316,19 @@ module _ {D : Type 0} {g : Ghosts D} (table : Table) (told : List (Option (List 
       }
 
     -- the same, by slices of what was mounted
-    pub mounted_by : (body.table 1).fits table → parts.epoch < 2 ^ 32 → (bodies : List (List ℕ)) → AreBytes bodies → bodies ≡ book.records_of parts.ledger.book
+    pub mounted_by : (body.table current_format).fits table → parts.epoch < 2 ^ 32 → (bodies : List (List ℕ)) → AreBytes bodies → bodies ≡ book.records_of parts.ledger.book
         → (slice : List (CopyPair D g)) → All (λ p. AreBytes (copy.records_of p.copy)) slice → slice ≡ items → MountedInPairs table (told_by told) records parts.epoch base
     mounted_by proper small bodies are_bytes of_ledger slice all_bytes of_copies =
         store_mounted proper small (subst AreBytes of_ledger are_bytes) (subst (All (λ (p : CopyPair D g). AreBytes (copy.records_of p.copy))) of_copies all_bytes)
 
     -- the spares that are active are those that were found
-    pub swapped_by : (proper : (body.table 1).fits table) (small : parts.epoch < 2 ^ 32) (bodies : List (List ℕ)) (are_bytes : AreBytes bodies) (of_ledger : bodies ≡ book.records_of parts.ledger.book)
+    pub swapped_by : (proper : (body.table current_format).fits table) (small : parts.epoch < 2 ^ 32) (bodies : List (List ℕ)) (are_bytes : AreBytes bodies) (of_ledger : bodies ≡ book.records_of parts.ledger.book)
         → (slice : List (CopyPair D g)) (all_bytes : All (λ p. AreBytes (copy.records_of p.copy)) slice) (of_copies : slice ≡ items) → (mounted_by proper small bodies are_bytes of_ledger slice all_bytes of_copies).swapped ≡ swapped
     unfolding mounted_by store_mounted
     swapped_by proper small bodies are_bytes of_ledger slice all_bytes of_copies = refl
 
     -- and so are the numbers
-    pub numbers_by : (proper : (body.table 1).fits table) (small : parts.epoch < 2 ^ 32) (bodies : List (List ℕ)) (are_bytes : AreBytes bodies) (of_ledger : bodies ≡ book.records_of parts.ledger.book)
+    pub numbers_by : (proper : (body.table current_format).fits table) (small : parts.epoch < 2 ^ 32) (bodies : List (List ℕ)) (are_bytes : AreBytes bodies) (of_ledger : bodies ≡ book.records_of parts.ledger.book)
         → (slice : List (CopyPair D g)) (all_bytes : All (λ p. AreBytes (copy.records_of p.copy)) slice) (of_copies : slice ≡ items) → AreNumbers (mounted_by proper small bodies are_bytes of_ledger slice all_bytes of_copies) (numbers_found parts.ledger items)
     unfolding mounted_by
     numbers_by proper small bodies are_bytes of_ledger slice all_bytes of_copies =

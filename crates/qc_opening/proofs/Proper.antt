@@ -5,11 +5,10 @@ use Rattle.std.specs.List.{range_with_len}
 use Rattle.std.proofs.lemmas.List.{length-map, get_or_default}
 use Rattle.std.proofs.lemmas.List.Elements.{All-head, All-tail, All-map, All-filter, All-weaker, All-from_recursion}
 use Rattle.std.proofs.lemmas.List.FromFn.{get_or-map-range_with_len, length-map-range_with_len}
-use Rattle.qc_codec.specs.Base.{base_in, copy_base, tuples_of_base}
+use Rattle.qc_codec.specs.Base.{base_in, copy_base, current_copy_base, tuples_of_base}
 use Rattle.qc_codec.specs.Bodies as body
-use Rattle.qc_codec.specs.Copy.{grant_form}
-use Rattle.qc_codec.specs.Fields.{format_1, config, tuple}
-use Rattle.qc_codec.specs.Ledger.{readings}
+use Rattle.qc_codec.specs.Copy.{granted_in}
+use Rattle.qc_codec.specs.Fields.{current, config, tuple}
 use Rattle.qc_codec.specs.Restored.{is_kept_at, restored_tuple}
 use Rattle.qc_codec.specs.declared.record.BaseRecord.{BaseRecord}
 use Rattle.qc_codec.proofs.Fits.{config_legal, config_votes}
@@ -34,25 +33,25 @@ use Rattle.qc_opening.proofs.KeptDisks.Stands.{copy_spelled}
 -- CONFIGURATIONS
 
 -- what fits the form of configurations for so many copies is a legal one for them
-config_for : (copies : ℕ) (c : Voting) → (config (format_1 copies)).fits c → IsConfigFor copies c
-config_for copies c fits = record { legal = config_legal (format_1 copies) c fits; for_copies = config_votes (format_1 copies) c fits }
+config_for : (copies : ℕ) (c : Voting) → (config (current copies)).fits c → IsConfigFor copies c
+config_for copies c fits = record { legal = config_legal (current copies) c fits; for_copies = config_votes (current copies) c fits }
 
-tuple_for : (copies : ℕ) (t : Tuple) → (tuple (format_1 copies)).fits t → IsConfigFor copies t.config
+tuple_for : (copies : ℕ) (t : Tuple) → (tuple (current copies)).fits t → IsConfigFor copies t.config
 unfolding tuple
 tuple_for copies t fits = config_for copies t.config fits.0.1.1.1
 
 -- the tuples of a base are a row of legal configurations
-base_for : (copies records : ℕ) (b : BaseRecord) → (body.base (format_1 copies) records).fits b → IsRowFor copies records b.tuples
+base_for : (copies records : ℕ) (b : BaseRecord) → (body.base (current copies) records).fits b → IsRowFor copies records b.tuples
 unfolding body.base body.folded
 base_for copies records b fits = record {
   same_records = fits.0.1.1.0;
-  configs = All-weaker (tuple (format_1 copies)).fits (λ (t : Tuple). IsConfigFor copies t.config) (tuple_for copies) b.tuples fits.0.1.1.1;
+  configs = All-weaker (tuple (current copies)).fits (λ (t : Tuple). IsConfigFor copies t.config) (tuple_for copies) b.tuples fits.0.1.1.1;
 }
 
 -- GRANTS
 
 -- what a grant puts is a legal configuration, where it puts one
-grant_puts : (copies : ℕ) (g : Grant) → (body.grant (format_1 copies)).fits g → GrantHas (IsConfigFor copies) g
+grant_puts : (copies : ℕ) (g : Grant) → (body.grant (current copies)).fits g → GrantHas (IsConfigFor copies) g
 unfolding body.grant body.granted
 grant_puts copies g fits = by_op g.op g.tuple fits.1 (tuple_for copies g.tuple fits.0.1.1.1)
   where
@@ -73,15 +72,15 @@ module _ (plan : ScriptPlan) (proper : IsProper plan) where
   rows_fit = All-from_recursion (IsProperRow plan.table.copies) plan.table.records proper.rows
 
   -- a copy begins with legal configurations: those of its base, or the table's
-  begin_for : (base : Option BaseRecord) → All (copy_base plan.table).fits (option_to_list base) → (rec : ℕ) → rec < length plan.table.records → IsConfigFor plan.table.copies (from_row (tuples_of_base plan.table base) rec).config
+  begin_for : (base : Option BaseRecord) → All (current_copy_base plan.table).fits (option_to_list base) → (rec : ℕ) → rec < length plan.table.records → IsConfigFor plan.table.copies (from_row (tuples_of_base plan.table base) rec).config
   begin_for None fits rec within =
       All-map (λ (t : Tuple). IsConfigFor plan.table.copies t.config) first_tuple plan.table.records rows_fit rec no_tuple (omega (arith, within, length-map plan.table.records first_tuple))
   begin_for (Some b) fits rec within =
-      let of_base = base_for plan.table.copies (length plan.table.records) b (All-head (copy_base plan.table).fits b [] fits) in
+      let of_base = base_for plan.table.copies (length plan.table.records) b (All-head (current_copy_base plan.table).fits b [] fits) in
       of_base.configs rec no_tuple (omega (arith, within, of_base.same_records))
 
   module _ (disk : ℕ → ℕ) (told : ℕ → Option (List ℕ)) (records : ℕ → List (List ℕ)) (epoch : ℕ) (base : List (List Tuple)) (m : MountedOn disk plan.table told records epoch base) where
-    puts : (copy : ℕ) → copy < plan.table.copies → All (GrantHas (IsConfigFor plan.table.copies)) (readings (grant_form plan.table) (records (copy + 1)))
+    puts : (copy : ℕ) → copy < plan.table.copies → All (GrantHas (IsConfigFor plan.table.copies)) (granted_in plan.table (records (copy + 1)))
     puts copy there k d lt = grant_puts plan.table.copies _ ((copy_spelled disk plan.table told records epoch base m copy there).tells.grants_fit k d lt)
 
     -- with what a copy begins
@@ -94,16 +93,16 @@ module _ (plan : ScriptPlan) (proper : IsProper plan) where
         subst (λ (row : List Tuple). IsConfigFor plan.table.copies (from_row row rec).config) (sym is.begin_is) (begin_for is.base is.base_fits rec within)
 
     restored_for : (copy rec : ℕ) → copy < plan.table.copies → rec < length plan.table.records
-        → IsConfigFor plan.table.copies (restored_tuple m.past.tops rec (from_row (begin copy) rec) (readings (grant_form plan.table) (records (copy + 1)))).config
+        → IsConfigFor plan.table.copies (restored_tuple m.past.tops rec (from_row (begin copy) rec) (granted_in plan.table (records (copy + 1)))).config
     restored_for copy rec there within =
-        changed_has (IsConfigFor plan.table.copies) (from_row (begin copy) rec) (filter (is_kept_at m.past.tops rec) (readings (grant_form plan.table) (records (copy + 1)))) (start_for copy rec there within)
-        (All-filter (is_kept_at m.past.tops rec) (GrantHas (IsConfigFor plan.table.copies)) (readings (grant_form plan.table) (records (copy + 1))) (puts copy there))
+        changed_has (IsConfigFor plan.table.copies) (from_row (begin copy) rec) (filter (is_kept_at m.past.tops rec) (granted_in plan.table (records (copy + 1)))) (start_for copy rec there within)
+        (All-filter (is_kept_at m.past.tops rec) (GrantHas (IsConfigFor plan.table.copies)) (granted_in plan.table (records (copy + 1))) (puts copy there))
 
     row_for : (copy : ℕ) → copy < plan.table.copies → IsRowFor plan.table.copies (length plan.table.records) (get_or base copy [])
     row_for copy there = subst (IsRowFor plan.table.copies (length plan.table.records)) (sym (m.starts copy there)) (record { same_records = size; configs = fits })
       where
         tuple_at : ℕ → Tuple
-        tuple_at rec = restored_tuple m.past.tops rec (from_row (begin copy) rec) (readings (grant_form plan.table) (records (copy + 1)))
+        tuple_at rec = restored_tuple m.past.tops rec (from_row (begin copy) rec) (granted_in plan.table (records (copy + 1)))
 
         size : length (map tuple_at (range_with_len 0 (length plan.table.records))) ≡ length plan.table.records
         size = length-map-range_with_len tuple_at 0 (length plan.table.records)

@@ -3,8 +3,7 @@ use Rattle.std.specs.Prelude.{ℕ, ◌≡◌, ◌+◌, false, true, not, List, �
 use Rattle.qc_disk.specs.Disk.{DiskView}
 use Rattle.qc_disk.specs.declared.disk.Disk.{Ghosts}
 use Rattle.qc_codec.specs.Base.{base_in, copy_base, tuples_of_base}
-use Rattle.qc_codec.specs.Copy.{grant_form}
-use Rattle.qc_codec.specs.Ledger.{readings}
+use Rattle.qc_codec.specs.Copy.{granted_in}
 use Rattle.qc_codec.specs.Restored.{restored_row}
 use Rattle.qc_codec.specs.declared.past.Past.{Past}
 use Rattle.qc_event.specs.declared.table.Table.{Table}
@@ -53,7 +52,7 @@ module _ {D : Type 0} {g : Ghosts D} where
       pub copies : copy.copies_of pair.copy ≡ table.copies
       pub limit_is : limit_of (copy.journal_of pair.copy) ≡ limit
       pub up : IsUp (copy.journal_of pair.copy)
-      pub start : start_of pair.copy ≡ restored_row past.tops (length table.records) (from_row (tuples_of_base table (base_in copy_base (copy.records_of pair.copy)))) (readings (grant_form table) (copy.records_of pair.copy))
+      pub start : start_of pair.copy ≡ restored_row past.tops (length table.records) (from_row (tuples_of_base table (base_in copy_base (copy.records_of pair.copy)))) (granted_in table (copy.records_of pair.copy))
       pub folds : IsFoldFor pair.fold limit (grants.made_body (number_at (not (swapped_in pair.fold)) (number + 1)) table) epoch table.copies
       pub left : AreMounted g.view table (number + 1) disks (copy_disks pair)
 

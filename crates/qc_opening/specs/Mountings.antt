@@ -3,8 +3,8 @@ use Rattle.std.specs.Prelude.{ℕ, ◌≡◌, ◌+◌, ◌<◌, ◌≤◌, ◌^�
 use Rattle.qc_config.specs.Val.{Datum}
 use Rattle.qc_codec.specs.Base.{base_in, copy_base, tuples_of_base}
 use Rattle.qc_codec.specs.Bodies as body
-use Rattle.qc_codec.specs.Copy.{grant_form}
-use Rattle.qc_codec.specs.Ledger.{readings}
+use Rattle.qc_codec.specs.Copy.{granted_in}
+use Rattle.qc_codec.specs.Fields.{current_format}
 use Rattle.qc_codec.specs.Restored.{restored_row}
 use Rattle.qc_codec.specs.declared.past.Logged.{Logged}
 use Rattle.qc_codec.specs.declared.past.Past.{Past as Logs}
@@ -51,14 +51,14 @@ module _ (disk : ℕ → ℕ) where
   pub record MountedOn (table : Table) (told : ℕ → Option (List ℕ)) (records : ℕ → List (List ℕ)) (epoch : ℕ) (base : List (List Tuple)) : Type 0 where
     pub past : Logs
     pub limit : ℕ → ℕ
-    pub proper : (body.table 1).fits table
+    pub proper : (body.table current_format).fits table
     pub small : epoch < 2 ^ 32
     pub bytes : (place : ℕ) → place ≤ table.copies → AreBytes (records place)
     pub ledger : ledger.MountsLedger (disk 0) table (limit 0) (told 0) (records 0) past epoch
     pub copies : (copy : ℕ) → copy < table.copies → copies.MountsCopy (disk (copy + 1)) table past (limit (copy + 1)) (told (copy + 1)) (records (copy + 1))
     pub as_many : length base ≡ table.copies
     pub starts : (copy : ℕ) → copy < table.copies
-        → slice_index_or base copy [] ≡ restored_row past.tops (length table.records) (from_row (tuples_of_base table (base_in copy_base (records (copy + 1))))) (readings (grant_form table) (records (copy + 1)))
+        → slice_index_or base copy [] ≡ restored_row past.tops (length table.records) (from_row (tuples_of_base table (base_in copy_base (records (copy + 1))))) (granted_in table (records (copy + 1)))
 
   -- The copies' disks told images on which no grant stands: they were empty, or of a store that was just made.
   abbrev pub HaveNoGrantsOn : Table → (ℕ → Option (List ℕ)) → Type 0

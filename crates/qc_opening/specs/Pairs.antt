@@ -7,6 +7,7 @@ use Rattle.qc_codec.specs.Bodies as body
 use Rattle.qc_codec.specs.Form.{Form}
 use Rattle.qc_codec.specs.Ledger.{made_for}
 use Rattle.qc_codec.specs.declared.record.BaseRecord.{BaseRecord}
+use Rattle.qc_codec.specs.declared.record.Made.{Made}
 use Rattle.qc_config.specs.declared.tuple.Tuple.{Tuple}
 use Rattle.qc_event.specs.declared.table.Table.{Table}
 use Rattle.qc_event.specs.History.{Past}
@@ -16,7 +17,7 @@ use Rattle.qc_journal.specs.Image.{HasRecords}
 use Rattle.qc_ledger.specs.Image as tops
 use Rattle.qc_ledger.specs.Runs.{HasOrMore}
 use Rattle.qc_opening.specs.Mountings.{AreKept, HaveNoGrantsOn, IsCutOff, MountedOn}
-use Rattle.qc_pair.specs.Front.{base_form, number_in}
+use Rattle.qc_pair.specs.Front.{current_base, number_in}
 use Rattle.qc_pair.specs.Opening.{HaveActive}
 use Rattle.qc_pair.specs.Pair.{number_at}
 use Rattle.qc_pair.specs.declared.kind.Kind.{Kind}
@@ -87,8 +88,8 @@ next_base kind found epoch tuples = record { number = number_in kind found + 1; 
 
 -- A fold into a disk was finished: its image has how the disk was made and the next base, and no more.
 pub record IsFolded (kind : Kind) (table : Table) (found : List (List ℕ)) (epoch : ℕ) (tuples : List Tuple) (made image : List ℕ) : Type 0 where
-  pub fits : (base_form kind table).fits (next_base kind found epoch tuples)
-  pub has : HasRecords (made ∷ (base_form kind table).spell (next_base kind found epoch tuples) ∷ []) image
+  pub fits : (current_base kind table).fits (next_base kind found epoch tuples)
+  pub has : HasRecords (made ∷ (current_base kind table).spell (next_base kind found epoch tuples) ∷ []) image
 
 module _ {table : Table} {told : ℕ → Option (List ℕ)} {records : ℕ → List (List ℕ)} {epoch : ℕ} {base : List (List Tuple)} (m : MountedInPairs table told records epoch base) (past : Past) (images : List (List ℕ)) where
   -- of a pair's other disk the image, and how it was made
@@ -128,7 +129,7 @@ AreFoldedInPairs table base epoch past images = TellsLedger table images (IsFold
 
 -- The images of a pair are left of others by a mounting that was cut off: the active one has the same records, and some first
 -- ones of those that a mounting writes behind them; the other one has the same records.
-pub record IsPairCutOff (form : Table → Form BaseRecord) (pair : ℕ) (written : ℕ → List (List ℕ) → List (List ℕ)) (image image' later later' : List ℕ) : Type 0 where
+pub record IsPairCutOff (form : Made → Form BaseRecord) (pair : ℕ) (written : ℕ → List (List ℕ) → List (List ℕ)) (image image' later later' : List ℕ) : Type 0 where
   pub is_spare : Bool
   pub own : IsCutOff (λ found. if is_spare then [] else written (number_at false pair) found) image later
   pub spare : IsCutOff (λ found. if is_spare then written (number_at true pair) found else []) image' later'

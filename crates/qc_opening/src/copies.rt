@@ -1,6 +1,7 @@
 //! Mounting the copies of a store.
 ghost use Rattle.std.specs.Prelude.{ℕ, ◌≡◌, ◌<◌, ◌≤◌, ◌+◌, ◌++◌, List, [], length, map, IfOk, IfErr};
 ghost use Rattle.qc_codec.specs.Bodies as body;
+ghost use Rattle.qc_codec.specs.Fields.{current_format};
 ghost use Rattle.qc_site.specs.Pairs.{IsCopyPairNo};
 ghost use Rattle.qc_opening.specs.Disks.{IsPairLeft};
 ghost use Rattle.qc_opening.specs.Images.{IsCopiesFault};
@@ -29,7 +30,7 @@ fn mount_copy<D: Disk>(
 ) -> Result<CopyPair<D>, PairNo>
     requires copy { copy < table.now.copies }
     requires few { table.now.copies ≤ 16 }
-    requires proper { (body.table 1).fits table.now }
+    requires proper { (body.table current_format).fits table.now }
     requires begun { 0 < epoch }
     requires some { 0 < length (waiting_in waiting.old) }
     requires room { HasRoom (length (waiting_in waiting.old)) waiting.old }
@@ -76,7 +77,7 @@ pub(crate) fn mount_copies<D: Disk>(
     epoch: u32,
     limit: u64,
 ) -> Result<Vec<CopyPair<D>>, PairNo>
-    requires proper { (body.table 1).fits table.now }
+    requires proper { (body.table current_format).fits table.now }
     requires few { table.now.copies ≤ 16 }
     requires begun { 0 < epoch }
     requires all { length (waiting_in waiting.old) ≡ table.now.copies }

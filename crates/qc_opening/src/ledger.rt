@@ -1,6 +1,7 @@
 //! Mounting the ledger of a store.
 ghost use Rattle.std.specs.Prelude.{ℕ, ◌≡◌, ◌<◌, ◌≤◌, length, IfOk, IfErr};
 ghost use Rattle.qc_codec.specs.Bodies as body;
+ghost use Rattle.qc_codec.specs.Fields.{current_format};
 ghost use Rattle.qc_ledger.specs.Pairs.{IsLedgerPairNo};
 ghost use Rattle.qc_opening.specs.Disks.{IsPairLeft};
 ghost use Rattle.qc_opening.specs.Mounted.{IsLedger};
@@ -23,7 +24,7 @@ pub(crate) fn mount_ledger<D: Disk>(
     table: &Table,
     limit: u64,
 ) -> Result<(LedgerPair<D>, Past, u32), PairNo>
-    requires proper { (body.table 1).fits table.now }
+    requires proper { (body.table current_format).fits table.now }
     requires some { 0 < length (waiting_in waiting.old) }
     requires room { HasRoom (length (waiting_in waiting.old)) waiting.old }
     ensures mounted { IfOk result (λ mounted. IsTaken

@@ -1,6 +1,7 @@
 //! Mounting a store.
 ghost use Rattle.std.specs.Prelude.{ℕ, ◌≡◌, ◌+◌, ◌≤◌, List, [], length, IfOk, IfErr, OnOk};
 ghost use Rattle.qc_codec.specs.Bodies as body;
+ghost use Rattle.qc_codec.specs.Fields.{current_format};
 ghost use Rattle.qc_opening.specs.Disks.{all_places};
 ghost use Rattle.qc_opening.specs.Images.{IsFirstFault, IsFirstInPairs};
 ghost use Rattle.qc_opening.specs.Mounted.{IsStoreOf};
@@ -25,7 +26,7 @@ fn mount_all<D: Disk>(
     table: &Table,
     limit: u64,
 ) -> Result<Parts<D>, PairNo>
-    requires proper { (body.table 1).fits table.now }
+    requires proper { (body.table current_format).fits table.now }
     requires few { table.now.copies ≤ 16 }
     requires all { length (waiting_in waiting.old) ≡ table.now.copies + 1 }
     requires room { HasRoom (length (waiting_in waiting.old)) waiting.old }
@@ -63,7 +64,7 @@ pub fn mount_disks<D: Disk>(
     table: &Table,
     limit: u64,
 ) -> Result<Parts<D>, MountNo<D>>
-    requires proper { (body.table 1).fits table.now }
+    requires proper { (body.table current_format).fits table.now }
     requires all { length disks.items ≡ all_places table.now.copies }
     ensures store { IfOk result (λ parts. (pairs : List (D × D))
         × (own_then_spares pairs ≡ disks.items) × IsStoreOf table.now limit pairs parts) }

@@ -1,6 +1,7 @@
 //! From a shop to what the sessions left.
 ghost use Rattle.std.specs.Prelude.{◌++◌, ℕ, ◌≡◌, ◌≢◌, ◌<◌, ◌≤◌, ◌^◌, ◌⊎◌, All, List, length, IfOk, IfErr, OnOk, IsOk, IsErrOf};
 ghost use Rattle.qc_codec.specs.Bodies as body;
+ghost use Rattle.qc_codec.specs.Fields.{current_format};
 ghost use Rattle.qc_disk.specs.Shop.{TellsAlike, disks_of_place};
 ghost use Rattle.qc_event.specs.declared.short.Short.TheVariants.{Room};
 ghost use Rattle.qc_event.specs.History.{limit as most_entries};
@@ -47,7 +48,7 @@ pub fn run_stored<R: Threads + Wait + Sync, H: Shop, G: Gate + Sync>(
 where
     H::D: Drop + Send,
     requires proper { IsProper (plan_of_script script.now) }
-    requires spelled { (body.table 1).fits script.now.table }
+    requires spelled { (body.table current_format).fits script.now.table }
 
     // What is left is a legal history of this epoch. What ran to its end follows the script, and what was cut off is a
     // beginning of it.

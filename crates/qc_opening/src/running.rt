@@ -1,6 +1,7 @@
 //! A session over a store whose disks were obtained.
 ghost use Rattle.std.specs.Prelude.{ℕ, ◌≡◌, ◌<◌, ◌≤◌, ◌+◌, ◌^◌, ◌↔◌, List, [], length, vec_capacity, map, reverse, IfOk, IfErr, OnOk, IsOk, IsErrOf};
 ghost use Rattle.qc_codec.specs.Bodies as body;
+ghost use Rattle.qc_codec.specs.Fields.{current_format};
 ghost use Rattle.qc_event.specs.declared.short.Short.TheVariants.{Room};
 ghost use Rattle.qc_event.specs.Base.{IsProper as IsProperSetting};
 ghost use Rattle.qc_event.specs.History.{limit as most};
@@ -98,7 +99,7 @@ fn run_mounted<R: Threads + Wait + Sync, D: Disk + Drop + Send, G: Gate + Sync>(
 ) -> Result<Stored<D>, Vec<D>>
     ghost given: { List D }
     requires proper { IsProper (plan_of_script script.now) }
-    requires spelled { (body.table 1).fits script.now.table }
+    requires spelled { (body.table current_format).fits script.now.table }
     requires store { IsStoreOver script.now.table (map (λ disk. (D.view disk).content) given)
         (map (λ disk. (D.view disk).faults) given) parts }
     requires all { length parts.copies.items ≡ script.now.table.copies }
@@ -144,7 +145,7 @@ pub(crate) fn run_disks<R: Threads + Wait + Sync, D: Disk + Drop + Send, G: Gate
 ) -> Result<Stored<D>, MountNo<D>>
     ghost given: { List D }
     requires proper { IsProper (plan_of_script script.now) }
-    requires spelled { (body.table 1).fits script.now.table }
+    requires spelled { (body.table current_format).fits script.now.table }
     requires all { length disks.items ≡ all_places script.now.table.copies }
     requires given { disks.items ≡ given }
     ensures ran { IfOk result (HasRun D.view (plan_of_script script.now) limit

@@ -1,7 +1,7 @@
 -- What a fold leaves, and why it is refused.
 use Rattle.std.specs.Prelude.{ℕ, ◌≡◌, ◌<◌, ◌≤◌, ◌+◌, ◌^◌, ◌⊎◌, List, [], ◌∷◌, length}
 use Rattle.qc_codec.specs.Bodies as body
-use Rattle.qc_codec.specs.Fields.{format_1}
+use Rattle.qc_codec.specs.Fields.{current}
 use Rattle.qc_config.specs.declared.tuple.Tuple.{Tuple}
 use Rattle.qc_journal.specs.Image.{HasRecords}
 use Rattle.qc_journal.specs.Journal.{IsTooLong}
@@ -26,7 +26,7 @@ IsFullFold limit made base place = ((place ≡ 0) × IsTooLong 0 limit made)
 
 -- the body of the base behind one of this number, of a store of so many copies
 abbrev pub next_base : ℕ → ℕ → ℕ → List Tuple → List ℕ
-next_base copies number epoch tuples = (body.base (format_1 copies) (length tuples)).spell (record { number = number + 1; epoch = epoch; tuples = tuples })
+next_base copies number epoch tuples = (body.base (current copies) (length tuples)).spell (record { number = number + 1; epoch = epoch; tuples = tuples })
 
 -- A fold behind a base of this number has no room at a place: there is no next number, or a body would pass the limit.
 abbrev pub HasNoRoom : ℕ → ℕ → List ℕ → List ℕ → ℕ → Type 0

@@ -1,8 +1,7 @@
 -- Which two bodies may stand first in a journal of a pair.
 use Rattle.std.specs.Prelude.{ℕ, ◌≡◌, ◌⊎◌, true, List, [], ◌∷◌, MatchOption, is_some}
-use Rattle.qc_codec.specs.Base.{base_in, copy_base, ledger_base, number_of_base}
+use Rattle.qc_codec.specs.Base.{base_in, copy_base, current_copy_base, current_ledger_base, layout_of, ledger_base, number_of_base}
 use Rattle.qc_codec.specs.Bodies as body
-use Rattle.qc_codec.specs.Copy.{grant_form}
 use Rattle.qc_codec.specs.Form.{Form, all_of}
 use Rattle.qc_codec.specs.declared.image.ImageFault.{ImageFault}
 use Rattle.qc_codec.specs.declared.image.ImageFault.TheVariants.{Grammar}
@@ -17,34 +16,39 @@ use Rattle.qc_pair.specs.declared.kind.Kind.{Kind}
 use Rattle.qc_pair.specs.declared.kind.Kind.TheVariants.{Ledger, Copy}
 
 -- the base of a journal of this kind
-abbrev pub base_form : Kind → Table → Form BaseRecord
+abbrev pub base_form : Kind → Made → Form BaseRecord
 base_form Ledger = ledger_base
 base_form Copy = copy_base
+
+-- the base of a store of this table in the current format
+abbrev pub current_base : Kind → Table → Form BaseRecord
+current_base Ledger = current_ledger_base
+current_base Copy = current_copy_base
 
 -- a record of the ledger that does not tell how it was made
 abbrev pub IsEpochOrTop : LedgerRecord → Type 0
 IsEpochOrTop (ledger_record.Made made) = ⊥
 IsEpochOrTop _ = Unit {0}
 
--- bytes are a record of the kind: of the ledger an epoch or a top, of a copy what one of this table's granted
-abbrev pub IsRecord : Kind → Table → List ℕ → Type 0
-IsRecord Ledger table bytes = MatchOption (all_of body.ledger bytes) ⊥ IsEpochOrTop
-IsRecord Copy table bytes = is_some (all_of (grant_form table) bytes) ≡ true
+-- bytes are a record of the kind: of the ledger an epoch or a top, of a copy what it granted where it was made so
+abbrev pub IsRecord : Kind → Made → List ℕ → Type 0
+IsRecord Ledger made bytes = MatchOption (all_of body.ledger bytes) ⊥ IsEpochOrTop
+IsRecord Copy made bytes = is_some (all_of (body.grant (layout_of made)) bytes) ≡ true
 
 module _ (kind : Kind) where
-  -- bytes may stand behind a made record of a table: they are a base or a record
-  abbrev pub MayStandSecond : Table → List ℕ → Type 0
-  MayStandSecond table bytes = (is_some (all_of (base_form kind table) bytes) ≡ true) ⊎ IsRecord kind table bytes
+  -- bytes may stand behind a made record: they are a base or a record
+  abbrev pub MayStandSecond : Made → List ℕ → Type 0
+  MayStandSecond made bytes = (is_some (all_of (base_form kind made) bytes) ≡ true) ⊎ IsRecord kind made bytes
 
   -- so they may behind a first body that tells that the disk of a number was made
-  abbrev pub IsMadeWith : ℕ → (Table → Type 0) → List ℕ → Type 0
-  IsMadeWith who Behind first = MatchOption (all_of body.made first) ⊥ (λ (made : Made). (made.who ≡ who) × Behind made.table)
+  abbrev pub IsMadeWith : ℕ → (Made → Type 0) → List ℕ → Type 0
+  IsMadeWith who Behind first = MatchOption (all_of body.made first) ⊥ (λ (made : Made). (made.who ≡ who) × Behind made)
 
   -- these bodies may begin the journal of the disk of a number
   abbrev pub MayBegin : ℕ → List (List ℕ) → Type 0
   MayBegin who [] = Unit {0}
-  MayBegin who (first ∷ []) = IsMadeWith who (λ table. Unit {0}) first
-  MayBegin who (first ∷ second ∷ bodies) = IsMadeWith who (λ table. MayStandSecond table second) first
+  MayBegin who (first ∷ []) = IsMadeWith who (λ made. Unit {0}) first
+  MayBegin who (first ∷ second ∷ bodies) = IsMadeWith who (λ made. MayStandSecond made second) first
 
   -- of the first two bodies the one of this index is the first that may not stand where it does
   abbrev pub IsFrontFault : ℕ → List (List ℕ) → ℕ → Type 0
@@ -69,7 +73,7 @@ IsFrontNo kind who bodies (Image bad) = (bad.disk ≡ who) × IsGrammar (IsFront
 IsFrontNo kind who bodies Memory = Unit {0}
 
 -- bytes may not stand second, or memory was wanting
-abbrev pub IsSecondNo : Kind → ℕ → Table → List ℕ → PairNo → Type 0
-IsSecondNo kind who table bytes (Disk n) = ⊥
-IsSecondNo kind who table bytes (Image bad) = (bad.disk ≡ who) × IsGrammar (λ index. (index ≡ 1) × (MayStandSecond kind table bytes → ⊥)) bad.fault
-IsSecondNo kind who table bytes Memory = Unit {0}
+abbrev pub IsSecondNo : Kind → ℕ → Made → List ℕ → PairNo → Type 0
+IsSecondNo kind who made bytes (Disk n) = ⊥
+IsSecondNo kind who made bytes (Image bad) = (bad.disk ≡ who) × IsGrammar (λ index. (index ≡ 1) × (MayStandSecond kind made bytes → ⊥)) bad.fault
+IsSecondNo kind who made bytes Memory = Unit {0}

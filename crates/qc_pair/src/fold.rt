@@ -2,7 +2,7 @@
 ghost use Rattle.std.specs.Prelude.{ℕ, ◌≡◌, ◌<◌, ◌≤◌, ◌+◌, ◌^◌, ◌⊎◌, nat_lt, List, All, None, Some, IfErr, IfOk, OnErr, OnOk, IsErrOf, Err, length, if◌then◌else◌};
 ghost use Rattle.qc_codec.specs.Bodies as body;
 ghost use Rattle.qc_codec.specs.Fields as field;
-ghost use Rattle.qc_codec.specs.Fields.{format_1};
+ghost use Rattle.qc_codec.specs.Fields.{current};
 ghost use Rattle.qc_disk.specs.Disk.{HasCause, CountsOnce, LeavesOnly};
 ghost use Rattle.qc_journal.specs.Journal.{disk_of, IsUp, Keeps};
 ghost use Rattle.qc_journal.specs.declared.fault.Fault.TheVariants.{Full, Memory};
@@ -30,8 +30,8 @@ fn write(
     requires last { number ≤ 2 ^ 63 }
     requires begun { 0 < epoch }
     requires few { copies ≤ 16 }
-    requires fit { All (field.tuple (format_1 copies)).fits tuples.items }
-    ensures spelled { IfOk result (λ bytes. bytes.items ≡ (body.base (format_1 copies)
+    requires fit { All (field.tuple (current copies)).fits tuples.items }
+    ensures spelled { IfOk result (λ bytes. bytes.items ≡ (body.base (current copies)
         (length tuples.items)).spell
         (record { number = number; epoch = epoch; tuples = tuples.items })) }
     ensures memory { IfErr result (λ no. no ≡ Memory) }
@@ -76,7 +76,7 @@ impl<D: Disk> Fold<D> {
 
     // The body of the next base, with these tuples. Full comes where the last number was used up.
     fn base(&self, alloc: Global, tuples: Vec<Tuple>) -> Result<Body, Fault>
-        requires fit { All (field.tuple (format_1 (copies_in self.now))).fits tuples.items }
+        requires fit { All (field.tuple (current (copies_in self.now))).fits tuples.items }
         ensures base { IfOk result (λ base. base.items ≡ folded_base self.now tuples.items) }
         ensures some { OnOk result (active_number self.now < 2 ^ 63) }
         ensures refused { OnErr result ((result ≡ Err Memory)
@@ -94,7 +94,7 @@ impl<D: Disk> Fold<D> {
     /// refusal it is the one that is read.
     pub fn fold(&mut self, alloc: Global, tuples: Vec<Tuple>) -> Result<(), Fault>
         requires up { IsUp (other_in self.old) }
-        requires fit { All (field.tuple (format_1 (copies_in self.old))).fits tuples.items }
+        requires fit { All (field.tuple (current (copies_in self.old))).fits tuples.items }
         ensures up { OnOk result (IsUp (other_in self.new)) }
         ensures same { IsSameFold self.old self.new }
 

@@ -10,31 +10,31 @@ ghost use Rattle.qc_pair.specs.declared.fault.PairNo.TheVariants.{Memory};
 use crate::fault::{PairNo, grammar_no};
 use crate::kind::Kind;
 use qc_codec::{
-    BaseRecord, CodecNo, FORMAT, LedgerRecord, read_base, read_grant, read_ledger, read_made,
+    BaseRecord, CodecNo, LedgerRecord, Made, read_base, read_grant, read_ledger, read_made,
 };
-use qc_event::Table;
 use qc_journal::Body;
 use std::alloc::Global;
 
 // The base of a kind that bytes are.
-fn base_of(alloc: Global, kind: Kind, table: &Table, bytes: &[u8]) -> Result<BaseRecord, CodecNo>
-    requires few { table.now.copies ≤ 16 }
-    requires small { length table.now.records < 256 }
-    ensures { ReadsAll (base_form kind table.now) result bytes.now }
+fn base_of(alloc: Global, kind: Kind, made: &Made, bytes: &[u8]) -> Result<BaseRecord, CodecNo>
+    requires few { made.now.table.copies ≤ 16 }
+    requires small { length made.now.table.records < 256 }
+    ensures { ReadsAll (base_form kind made.now) result bytes.now }
 {
+    let copies = made.table.copies;
     match kind {
-        Kind::Ledger => read_base(alloc, bytes, table.copies, 0, FORMAT),
+        Kind::Ledger => read_base(alloc, bytes, copies, 0, made.format),
         Kind::Copy => {
-            let records = table.records.as_slice().len() as u8;
-            read_base(alloc, bytes, table.copies, records, FORMAT)
+            let records = made.table.records.as_slice().len() as u8;
+            read_base(alloc, bytes, copies, records, made.format)
         }
     }
 }
 
 // Whether bytes are a record of a kind.
-fn is_record(alloc: Global, kind: Kind, table: &Table, bytes: &[u8]) -> Result<bool, PairNo>
-    requires few { table.now.copies ≤ 16 }
-    ensures tells { IfOk result (λ is. IsTrue is ↔ IsRecord kind table.now bytes.now) }
+fn is_record(alloc: Global, kind: Kind, made: &Made, bytes: &[u8]) -> Result<bool, PairNo>
+    requires few { made.now.table.copies ≤ 16 }
+    ensures tells { IfOk result (λ is. IsTrue is ↔ IsRecord kind made.now bytes.now) }
     ensures memory { IfErr result (λ no. no ≡ Memory) }
 {
     match kind {
@@ -43,7 +43,7 @@ fn is_record(alloc: Global, kind: Kind, table: &Table, bytes: &[u8]) -> Result<b
             Ok(_) => Ok(true),
             Err(CodecNo::Memory) => Err(PairNo::Memory),
         },
-        Kind::Copy => Ok(read_grant(bytes, table.copies, FORMAT).is_ok()),
+        Kind::Copy => Ok(read_grant(bytes, made.table.copies, made.format).is_ok()),
     }
 }
 
@@ -52,22 +52,22 @@ fn number_of_second(
     alloc: Global,
     who: u8,
     kind: Kind,
-    table: &Table,
+    made: &Made,
     bytes: &[u8],
 ) -> Result<u64, PairNo>
-    requires few { table.now.copies ≤ 16 }
-    requires small { length table.now.records < 256 }
-    ensures number { IfOk result (λ n. n ≡ number_of_base (all_of (base_form kind table.now)
+    requires few { made.now.table.copies ≤ 16 }
+    requires small { length made.now.table.records < 256 }
+    ensures number { IfOk result (λ n. n ≡ number_of_base (all_of (base_form kind made.now)
         bytes.now)) }
-    ensures may { OnOk result (MayStandSecond kind table.now bytes.now) }
-    ensures fault { IfErr result (IsSecondNo kind who table.now bytes.now) }
+    ensures may { OnOk result (MayStandSecond kind made.now bytes.now) }
+    ensures fault { IfErr result (IsSecondNo kind who made.now bytes.now) }
 {
-    match base_of(alloc, kind, table, bytes) {
+    match base_of(alloc, kind, made, bytes) {
         Ok(base) => return Ok(base.number),
         Err(CodecNo::Bad) => {}
         Err(CodecNo::Memory) => return Err(PairNo::Memory),
     }
-    if is_record(alloc, kind, table, bytes)? {
+    if is_record(alloc, kind, made, bytes)? {
         return Ok(0);
     }
     Err(grammar_no(who, 1))
@@ -90,5 +90,5 @@ pub(crate) fn front_of(alloc: Global, who: u8, kind: Kind, bodies: &[Body]) -> R
     if bodies.len() == 1 {
         return Ok(0);
     }
-    number_of_second(alloc, who, kind, &made.table, bodies[1].as_slice())
+    number_of_second(alloc, who, kind, &made, bodies[1].as_slice())
 }

@@ -5,7 +5,7 @@ use mathlib.Core.Bool.{true≢false}
 use Rattle.std.specs.Prelude.{All}
 use Rattle.std.proofs.lemmas.List.Elements.{All-cons, All-nil}
 use Rattle.qc_config.specs.Val.{Number}
-use Rattle.qc_codec.specs.Base.{copy_base, is_swapped, ledger_base}
+use Rattle.qc_codec.specs.Base.{copy_base, current_copy_base, current_ledger_base, is_swapped, ledger_base}
 use Rattle.qc_codec.specs.Bodies as body
 use Rattle.qc_codec.specs.Fields.{config, datum, half, long, number_datum, tuple, word}
 use Rattle.qc_codec.specs.Ledger.{made_for}
@@ -42,13 +42,13 @@ abbrev ledger_own : List (List ℕ)
 ledger_own = made 0 ∷ body.ledger.spell (ledger_record.Epoch 1) ∷ []
 
 abbrev ledger_spare : List (List ℕ)
-ledger_spare = made 17 ∷ (ledger_base table).spell (folded_to []) ∷ []
+ledger_spare = made 17 ∷ (current_ledger_base table).spell (folded_to []) ∷ []
 
 abbrev copy_own : List (List ℕ)
 copy_own = made 1 ∷ []
 
 abbrev copy_spare : List (List ℕ)
-copy_spare = made 18 ∷ (copy_base table).spell (folded_to (first_tuple one_row ∷ [])) ∷ []
+copy_spare = made 18 ∷ (current_copy_base table).spell (folded_to (first_tuple one_row ∷ [])) ∷ []
 
 -- an image of bodies, with a closed gate behind them
 abbrev pub image : List (List ℕ) → List ℕ
@@ -70,11 +70,11 @@ epoch_short : length (body.ledger.spell (ledger_record.Epoch 1)) ≡ 5
 unfolding body.ledger word
 epoch_short = refl
 
-ledger_base_short : length ((ledger_base table).spell (folded_to [])) ≡ 13
+ledger_base_short : length ((current_ledger_base table).spell (folded_to [])) ≡ 13
 unfolding body.base body.folded long word
 ledger_base_short = refl
 
-copy_base_short : length ((copy_base table).spell (folded_to (first_tuple one_row ∷ []))) ≡ 43
+copy_base_short : length ((current_copy_base table).spell (folded_to (first_tuple one_row ∷ []))) ≡ 43
 unfolding body.base body.folded tuple config datum number_datum half long word
 copy_base_short = refl
 
@@ -89,11 +89,11 @@ made_fits : (disk : ℕ) → disk < 256 → body.made.fits (made_for disk table)
 unfolding body.made body.making body.table body.row body.label config datum number_datum half long
 made_fits disk few = (((omega arith, refl), (few, search rules)), tt)
 
-ledger_base_fits : (ledger_base table).fits (folded_to [])
+ledger_base_fits : (current_ledger_base table).fits (folded_to [])
 unfolding body.base body.folded long word
 ledger_base_fits = search rules
 
-copy_base_fits : (copy_base table).fits (folded_to (first_tuple one_row ∷ []))
+copy_base_fits : (current_copy_base table).fits (folded_to (first_tuple one_row ∷ []))
 unfolding body.base body.folded tuple config datum number_datum half long word
 copy_base_fits = search rules
 

@@ -2,12 +2,13 @@
 -- the spares stand behind them, in the same order.
 use Rattle.std.specs.Prelude.{ℕ, ◌≡◌, ◌+◌, ◌<◌, ◌≤◌, ◌⊎◌, List, [], ◌∷◌, ◌++◌, length, map, slice_index_or, All}
 use Rattle.std.specs.List.{filter_map, range_with_len}
-use Rattle.qc_codec.specs.Base.{active, active_disk, base_in, copy_base, ledger_base, tuples_of_base}
+use Rattle.qc_codec.specs.Base.{active, active_disk, base_in, copy_base, current_copy_base, current_ledger_base, ledger_base, tuples_of_base}
 use Rattle.qc_codec.specs.Bodies as body
-use Rattle.qc_codec.specs.Copy.{grant_form}
+use Rattle.qc_codec.specs.Copy.{granted_in}
 use Rattle.qc_codec.specs.Form.{Form}
 use Rattle.qc_codec.specs.Ledger.{logged_in, made_for, readings}
 use Rattle.qc_codec.specs.declared.record.BaseRecord.{BaseRecord}
+use Rattle.qc_codec.specs.declared.record.Made.{Made}
 use Rattle.qc_config.specs.declared.tuple.Tuple.{Tuple}
 use Rattle.qc_event.specs.declared.table.Table.{Table}
 use Rattle.qc_event.specs.History.{Past}
@@ -23,7 +24,7 @@ use Rattle.qc_refine.specs.Standing.{IsAskedOf, StandBeside}
 -- PAIRS
 
 -- The images of a disk and its spare have bodies of which the active ones tell this.
-pub record TellsPair (form : Table → Form BaseRecord) (disk : ℕ) (Tells : ℕ → List (List ℕ) → Type 0) (image image' : List ℕ) : Type 0 where
+pub record TellsPair (form : Made → Form BaseRecord) (disk : ℕ) (Tells : ℕ → List (List ℕ) → Type 0) (image image' : List ℕ) : Type 0 where
   pub own : List (List ℕ)
   pub spare : List (List ℕ)
   pub has : HasRecords own image
@@ -37,8 +38,8 @@ pub record IsFoldedLedger (table : Table) (epoch : ℕ) (disk : ℕ) (bodies : L
   pub base : BaseRecord
   pub of_epoch : base.epoch ≡ epoch
   pub made_fits : body.made.fits (made_for disk table)
-  pub base_fits : (ledger_base table).fits base
-  pub are : bodies ≡ body.made.spell (made_for disk table) ∷ (ledger_base table).spell base ∷ []
+  pub base_fits : (current_ledger_base table).fits base
+  pub are : bodies ≡ body.made.spell (made_for disk table) ∷ (current_ledger_base table).spell base ∷ []
 
 -- Where it was folded they tell with what it begins alone, and the epoch.
 pub record IsFoldedCopy (table : Table) (epoch : ℕ) (held : List Tuple) (disk : ℕ) (bodies : List (List ℕ)) : Type 0 where
@@ -46,8 +47,8 @@ pub record IsFoldedCopy (table : Table) (epoch : ℕ) (held : List Tuple) (disk 
   pub of_epoch : base.epoch ≡ epoch
   pub holds : base.tuples ≡ held
   pub made_fits : body.made.fits (made_for disk table)
-  pub base_fits : (copy_base table).fits base
-  pub are : bodies ≡ body.made.spell (made_for disk table) ∷ (copy_base table).spell base ∷ []
+  pub base_fits : (current_copy_base table).fits base
+  pub are : bodies ≡ body.made.spell (made_for disk table) ∷ (current_copy_base table).spell base ∷ []
 
 -- STANDING
 
@@ -123,7 +124,7 @@ module _ (table : Table) (bodies : ℕ → List (List ℕ)) where
   abbrev pub kept_in_pairs : Kept
   kept_in_pairs = record {
     tops = filter_map logged_in (readings body.ledger ledger_bodies);
-    granted = map (λ copy. readings (grant_form table) (copy_bodies copy)) (range_with_len 0 table.copies);
+    granted = map (λ copy. granted_in table (copy_bodies copy)) (range_with_len 0 table.copies);
   }
 
 -- Images of pairs restore these tuples: the records of the active ones do, as they are read.

@@ -9,7 +9,7 @@ use Rattle.std.specs.Fmt.{digits}
 use Rattle.qc_config.specs.Val.{Number}
 use Rattle.qc_codec.proofs.Fits.{number_fits}
 use Rattle.qc_codec.specs.Bodies.{are_distinct, table}
-use Rattle.qc_codec.specs.Fields.{datum}
+use Rattle.qc_codec.specs.Fields.{current_format, datum}
 use Rattle.qc_event.specs.declared.table.Row.{Row}
 use Rattle.qc_script.specs.MadePlan.{one_each, made_row, made_plan}
 use Rattle.qc_script.specs.Plan.{ScriptPlan}
@@ -36,9 +36,9 @@ each_spelled (rec ∷ recs) all =
     let both = and_parts (is_label (made_row rec).name) (list_all (λ r. is_label (made_row r).name) recs) all in
     All-cons IsSpelledAlone (made_row rec) (map made_row recs) (record { name = label_of (made_row rec).name both.0; config = faultless }) (each_spelled recs both.1)
 
-each_small : (recs : List ℕ) → All (λ (r : Row). (datum 1).fits r.start) (map made_row recs)
-each_small [] = All-nil (λ (r : Row). (datum 1).fits r.start)
-each_small (rec ∷ recs) = All-cons (λ (r : Row). (datum 1).fits r.start) (made_row rec) (map made_row recs) (number_fits 1 (Number 0) 0 refl (omega arith)) (each_small recs)
+each_small : (recs : List ℕ) → All (λ (r : Row). (datum current_format).fits r.start) (map made_row recs)
+each_small [] = All-nil (λ (r : Row). (datum current_format).fits r.start)
+each_small (rec ∷ recs) = All-cons (λ (r : Row). (datum current_format).fits r.start) (made_row rec) (map made_row recs) (number_fits current_format (Number 0) 0 refl (omega arith)) (each_small recs)
 
 labels : list_all (λ rec. is_label (made_row rec).name) (range_with_len 0 8) ≡ true
 unfolding is_label digits
@@ -48,9 +48,9 @@ distinct : are_distinct (map made_row (range_with_len 0 8)) ≡ true
 unfolding digits
 distinct = refl
 
-made_fits : (n : ℕ) → (table 1).fits (made_plan n).table
+made_fits : (n : ℕ) → (table current_format).fits (made_plan n).table
 unfolding made_plan
 made_fits n = table_fits (made_plan n) (made_proper n) (record { distinct = distinct; each_one = each_spelled (range_with_len 0 8) labels }) (each_small (range_with_len 0 8))
 
-pub made_spelled : (s : ScriptPlan) (n : ℕ) → s ≡ made_plan n → (table 1).fits s.table
-made_spelled s n made = subst (λ (p : ScriptPlan). (table 1).fits p.table) (sym made) (made_fits n)
+pub made_spelled : (s : ScriptPlan) (n : ℕ) → s ≡ made_plan n → (table current_format).fits s.table
+made_spelled s n made = subst (λ (p : ScriptPlan). (table current_format).fits p.table) (sym made) (made_fits n)

@@ -12,7 +12,7 @@ use Rattle.std.proofs.lemmas.List.Sums.{sum_by-cons}
 use Rattle.std.proofs.lemmas.Result.{IfOk-at_ok}
 use Rattle.serde_json.specs.Data.{Data}
 use Rattle.qc_codec.specs.Bodies.{are_distinct, is_between, label, row, table}
-use Rattle.qc_codec.specs.Fields.{config, datum, format_1, half}
+use Rattle.qc_codec.specs.Fields.{config, current, current_format, datum, half}
 use Rattle.qc_config.specs.Config.{Voting, fault}
 use Rattle.qc_config.specs.declared.config.BadConfig.{BadConfig}
 use Rattle.qc_event.specs.Base.{IsConfigFor}
@@ -168,7 +168,7 @@ label_fits name is =
     let few = is.few in
     (((((omega arith, between 1 16 (length name) is.some is.few)), (refl, plain_bytes name is.plain)), tt), is.plain)
 
-config_fits : (copies : ℕ) (c : Voting) → copies ≤ 16 → IsConfigFor copies c → IsFaultless c → (config (format_1 copies)).fits c
+config_fits : (copies : ℕ) (c : Voting) → copies ≤ 16 → IsConfigFor copies c → IsFaultless c → (config (current copies)).fits c
 unfolding config half
 config_fits copies c few proper is =
     let most = most_votes c.votes is.votes in
@@ -177,18 +177,18 @@ config_fits copies c few proper is =
     let write = proper.legal.write_possible in
     ((((proper.for_copies, all_small 255 256 c.votes (omega arith) is.votes), (omega arith, omega arith)), tt), ap is_none is.none)
 
-row_fits : (copies : ℕ) (r : Row) → copies ≤ 16 → IsConfigFor copies r.config → IsSpelledAlone r → (datum 1).fits r.start → (row (format_1 copies)).fits r
+row_fits : (copies : ℕ) (r : Row) → copies ≤ 16 → IsConfigFor copies r.config → IsSpelledAlone r → (datum current_format).fits r.start → (row (current copies)).fits r
 unfolding row
 row_fits copies r few proper is small = ((label_fits r.name is.name, (small, config_fits copies r.config few proper is.config)), tt)
 
-rows_fit : (copies : ℕ) (rows : List Row) → copies ≤ 16 → AllByRecursion (λ (r : Row). IsConfigFor copies r.config) rows → All IsSpelledAlone rows → All (λ (r : Row). (datum 1).fits r.start) rows → All (row (format_1 copies)).fits rows
-rows_fit copies [] few proper spelled small = All-nil (row (format_1 copies)).fits
+rows_fit : (copies : ℕ) (rows : List Row) → copies ≤ 16 → AllByRecursion (λ (r : Row). IsConfigFor copies r.config) rows → All IsSpelledAlone rows → All (λ (r : Row). (datum current_format).fits r.start) rows → All (row (current copies)).fits rows
+rows_fit copies [] few proper spelled small = All-nil (row (current copies)).fits
 rows_fit copies (r ∷ rows) few proper spelled small =
-    All-cons (row (format_1 copies)).fits r rows
-    (row_fits copies r few proper.0 (All-head IsSpelledAlone r rows spelled) (All-head (λ (q : Row). (datum 1).fits q.start) r rows small))
-    (rows_fit copies rows few proper.1 (All-tail IsSpelledAlone r rows spelled) (All-tail (λ (q : Row). (datum 1).fits q.start) r rows small))
+    All-cons (row (current copies)).fits r rows
+    (row_fits copies r few proper.0 (All-head IsSpelledAlone r rows spelled) (All-head (λ (q : Row). (datum current_format).fits q.start) r rows small))
+    (rows_fit copies rows few proper.1 (All-tail IsSpelledAlone r rows spelled) (All-tail (λ (q : Row). (datum current_format).fits q.start) r rows small))
 
-pub table_fits : (s : ScriptPlan) → IsProper s → AreSpelled s.table.records → All (λ (r : Row). (datum 1).fits r.start) s.table.records → (table 1).fits s.table
+pub table_fits : (s : ScriptPlan) → IsProper s → AreSpelled s.table.records → All (λ (r : Row). (datum current_format).fits r.start) s.table.records → (table current_format).fits s.table
 unfolding table
 table_fits s proper spelled small =
     let some_copy = proper.some_copy in
@@ -198,6 +198,6 @@ table_fits s proper spelled small =
     ((((omega arith, between 1 16 s.table.copies (omega arith) (omega arith)), (((omega arith, between 1 64 (length s.table.records) (omega arith) (omega arith)), (refl, rows_fit s.table.copies s.table.records few_copies proper.rows spelled.each_one small)), tt)), tt), spelled.distinct)
 
 -- the table of the script that bytes are is spelled, where its start values are numbers of 64 bits
-pub spelled : (bytes : List ℕ) (s : ScriptPlan) → IsScript bytes s → IsProper s → All (λ (r : Row). (datum 1).fits r.start) s.table.records → (table 1).fits s.table
+pub spelled : (bytes : List ℕ) (s : ScriptPlan) → IsScript bytes s → IsProper s → All (λ (r : Row). (datum current_format).fits r.start) s.table.records → (table current_format).fits s.table
 spelled bytes s is proper small =
     table_fits s proper (subst (λ r. IfOk r (λ (p : ScriptPlan). AreSpelled p.table.records)) is.reads (script_spelled is.value)) small

@@ -1,6 +1,7 @@
 //! Runs whose session has ended.
 ghost use Rattle.std.specs.Prelude.{ℕ, ◌≡◌, ◌≤◌, List, length, reverse, IfOk, OnOk, IsOk, IsErrOf};
 ghost use Rattle.qc_codec.specs.Bodies as body;
+ghost use Rattle.qc_codec.specs.Fields.{current_format};
 ghost use Rattle.qc_event.specs.Base.{IsProper};
 ghost use Rattle.qc_event.specs.Legal.{Legal};
 ghost use Rattle.qc_event.specs.Tables.{setting_of};
@@ -53,7 +54,7 @@ fn text_of(
     requires same { history.now ≡ trail.now }
     requires legal { Legal (setting_of table.now start.now) (reverse trail.now) }
     requires proper { IsProper (setting_of table.now start.now) }
-    requires spelled { (body.table 1).fits table.now }
+    requires spelled { (body.table current_format).fits table.now }
     requires as_many { length start.now ≡ table.now.copies }
     ensures text { IfOk result
         (λ text. text.items ≡ terms.text_by form table.now start.now trail.now) }
@@ -89,7 +90,7 @@ fn page_of(
 ) -> Result<Page, AllocError>
     requires legal { Legal (setting_of table.now start.now) (reverse trail.now) }
     requires proper { IsProper (setting_of table.now start.now) }
-    requires spelled { (body.table 1).fits table.now }
+    requires spelled { (body.table current_format).fits table.now }
     requires as_many { length start.now ≡ table.now.copies }
     ensures text { IfOk result
         (λ page. page.text.items ≡ terms.text_by form table.now start.now trail.now) }
@@ -114,7 +115,7 @@ fn conclude<K: Sink>(
 ) -> Status
     requires legal { Legal (setting_of table.now start.now) (reverse trail.now) }
     requires proper { IsProper (setting_of table.now start.now) }
-    requires spelled { (body.table 1).fits table.now }
+    requires spelled { (body.table current_format).fits table.now }
     requires as_many { length start.now ≡ table.now.copies }
     ensures answer { left.IsConcluded result }
     ensures saved { terms.IsReported result
@@ -161,7 +162,7 @@ pub(crate) fn finish<K: Sink>(
 ) -> Status
     requires legal { Legal (setting_of table.now start.now) (reverse trail.now) }
     requires proper { IsProper (setting_of table.now start.now) }
-    requires spelled { (body.table 1).fits table.now }
+    requires spelled { (body.table current_format).fits table.now }
     requires as_many { length start.now ≡ table.now.copies }
     ensures answer { left.IsPerformed result }
     ensures saved { terms.IsReported result

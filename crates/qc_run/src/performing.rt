@@ -1,6 +1,7 @@
 //! Runs of a script that is there.
 ghost use Rattle.std.specs.Prelude.{◌≤◌};
 ghost use Rattle.qc_codec.specs.Bodies as body;
+ghost use Rattle.qc_codec.specs.Fields.{current_format};
 ghost use Rattle.qc_script.specs.Reading.{IsProper};
 ghost use Rattle.qc_script.specs.Steps.{plan_of_script};
 ghost use Rattle.qc_run.specs.Left as left;
@@ -37,7 +38,7 @@ pub(crate) fn perform<R: Threads + Wait + Sync, K: Sink, H: Shop, G: Gate + Sync
 where
     H::D: Drop + Send,
     requires proper { IsProper (plan_of_script script.now) }
-    requires spelled { (body.table 1).fits script.now.table }
+    requires spelled { (body.table current_format).fits script.now.table }
     ensures answer { left.IsAnswer H.D.view (plan_of_script script.now)
         (H.view shop.old) place.now form (H.view shop.new)
         (K.view sink.old) (K.view sink.new) result }

@@ -1,7 +1,7 @@
 //! That the table of a script is one that the disks can keep.
 ghost use Rattle.std.specs.Prelude.{ℕ, ◌≡◌, All, List};
 ghost use Rattle.qc_codec.specs.Bodies as body;
-ghost use Rattle.qc_codec.specs.Fields.{datum};
+ghost use Rattle.qc_codec.specs.Fields.{current_format, datum};
 ghost use Rattle.qc_script.specs.MadePlan.{made_plan};
 ghost use Rattle.qc_script.specs.Reading.{IsProper, IsScript};
 ghost use Rattle.qc_script.specs.Steps.{plan_of_script};
@@ -11,14 +11,14 @@ use qc_script::Script;
 
 // The start value of a row is a number of 64 bits.
 fn is_long(row: &Row)
-    ensures { (datum 1).fits row.now.start }
+    ensures { (datum current_format).fits row.now.start }
 {
     let _start = row.start.as_number();
 }
 
 // So is each row's.
 fn are_long(rows: &[Row])
-    ensures { All (λ row. (datum 1).fits row.start) rows.now }
+    ensures { All (λ row. (datum current_format).fits row.start) rows.now }
 {
     for row in rows {
         is_long(row);
@@ -29,7 +29,7 @@ fn are_long(rows: &[Row])
 pub(crate) fn is_spelled(script: &Script)
     requires { IsProper (plan_of_script script.now) }
     ensures { (bytes : List ℕ) → IsScript bytes (plan_of_script script.now)
-        → (body.table 1).fits script.now.table }
+        → (body.table current_format).fits script.now.table }
 {
     are_long(script.table.records.as_slice());
 }
@@ -37,7 +37,7 @@ pub(crate) fn is_spelled(script: &Script)
 /// So has one that is made of a number. It does nothing else.
 pub(crate) fn made_is_spelled(script: &Script)
     ensures { (n : ℕ) → plan_of_script script.now ≡ made_plan n
-        → (body.table 1).fits script.now.table }
+        → (body.table current_format).fits script.now.table }
 {
     are_long(script.table.records.as_slice());
 }

@@ -5,7 +5,7 @@ use Rattle.std.specs.declared.alloc.Global.{Global}
 use Rattle.std.proofs.lemmas.List.{drop-map, get_or-map, length-map, map_push, take-map}
 use Rattle.qc_event.specs.declared.event.Grant.{Grant}
 use Rattle.qc_codec.specs.Bodies as body
-use Rattle.qc_codec.specs.Fields.{format_1}
+use Rattle.qc_codec.specs.Fields.{current}
 use Rattle.qc_codec.specs.Form.{all_of}
 use Rattle.qc_codec.specs.Gives.{Refuses}
 use Rattle.qc_codec.specs.declared.fault.CodecNo.{CodecNo}
@@ -23,19 +23,19 @@ use Rattle.qc_site.specs.declared.back.Strange.TheVariants as strange
 module _ (copies : ℕ) (bodies : List (Vec ℕ Global)) (i : ℕ) (v : Vec ℕ Global) (within : i < length bodies) (is : v ≡ get_or bodies i v) (gs : List Grant) (so_far : AreGrants copies gs (bodies_of (take i bodies)))
     (bytes : List ℕ) (same : bytes ≡ v.items) where
   -- a body that is no grant is the first
-  pub unread : (fault : CodecNo) → fault ≡ Bad → Refuses fault (all_of (body.grant (format_1 copies)) bytes) → IsFirstUnread copies i (bodies_of bodies)
+  pub unread : (fault : CodecNo) → fault ≡ Bad → Refuses fault (all_of (body.grant (current copies)) bytes) → IsFirstUnread copies i (bodies_of bodies)
   unread fault bad refuses = (
     omega (arith, within, length-map bodies (λ (b : Vec ℕ Global). b.items)),
-    ap (all_of (body.grant (format_1 copies))) (get_or-map (λ (b : Vec ℕ Global). b.items) bodies i v [] within ∙ ap (λ (b : Vec ℕ Global). b.items) (sym is) ∙ sym same) ∙ subst (λ f. Refuses f (all_of (body.grant (format_1 copies)) bytes)) bad refuses,
-    (gs, ap (map (all_of (body.grant (format_1 copies)))) (take-map (λ (b : Vec ℕ Global). b.items) i bodies) ∙ so_far),
+    ap (all_of (body.grant (current copies))) (get_or-map (λ (b : Vec ℕ Global). b.items) bodies i v [] within ∙ ap (λ (b : Vec ℕ Global). b.items) (sym is) ∙ sym same) ∙ subst (λ f. Refuses f (all_of (body.grant (current copies)) bytes)) bad refuses,
+    (gs, ap (map (all_of (body.grant (current copies)))) (take-map (λ (b : Vec ℕ Global). b.items) i bodies) ∙ so_far),
   )
 
   -- one that is a grant joins them
-  pub read_more : (g : Grant) → all_of (body.grant (format_1 copies)) bytes ≡ Some g → AreGrants copies (gs ++ g ∷ []) (bodies_of (take (i + 1) bodies))
+  pub read_more : (g : Grant) → all_of (body.grant (current copies)) bytes ≡ Some g → AreGrants copies (gs ++ g ∷ []) (bodies_of (take (i + 1) bodies))
   read_more g read =
-      ap (map (all_of (body.grant (format_1 copies)))) (one_more bodies i v within is)
-      ∙ map_push (all_of (body.grant (format_1 copies))) (bodies_of (take i bodies)) v.items
-      ∙ ap₂ (λ (xs : List (Option Grant)) (x : Option Grant). xs ++ x ∷ []) so_far (ap (all_of (body.grant (format_1 copies))) (sym same) ∙ read)
+      ap (map (all_of (body.grant (current copies)))) (one_more bodies i v within is)
+      ∙ map_push (all_of (body.grant (current copies))) (bodies_of (take i bodies)) v.items
+      ∙ ap₂ (λ (xs : List (Option Grant)) (x : Option Grant). xs ++ x ∷ []) so_far (ap (all_of (body.grant (current copies))) (sym same) ∙ read)
       ∙ sym (map_push Some gs g)
 
 module _ (copies old : ℕ) (given : List Grant) (hand : Option Grant) where

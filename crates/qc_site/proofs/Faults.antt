@@ -10,6 +10,7 @@ use Rattle.qc_codec.specs.declared.image.ImageFault.TheVariants.{Broken, Grammar
 use Rattle.qc_codec.specs.declared.past.Past.{Past}
 use Rattle.qc_codec.proofs.Fits.{table_sized}
 use Rattle.qc_codec.proofs.Order.{each_none}
+use Rattle.qc_codec.specs.Fields.{current_format}
 use Rattle.qc_journal.specs.declared.fault.Fault.{Fault}
 use Rattle.qc_journal.specs.declared.fault.Fault.TheVariants as journal
 use Rattle.qc_ledger.specs.Refusing.{IsOfWriting}
@@ -21,8 +22,8 @@ use Rattle.qc_site.specs.declared.fault.SiteNo.{SiteNo}
 use Rattle.qc_site.specs.declared.fault.SiteNo.TheVariants.{Disk, Image, Strange, Short}
 
 -- a table has at most 16 copies
-pub few_copies : (table : Table) → (body.table 1).fits table → table.copies ≤ 16
-few_copies table fits = (table_sized 1 table fits).copies
+pub few_copies : (table : Table) → (body.table current_format).fits table → table.copies ≤ 16
+few_copies table fits = (table_sized current_format table fits).copies
 
 module _ (disk : ℕ) where
   -- HANDED ON

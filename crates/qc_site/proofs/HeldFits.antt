@@ -17,12 +17,12 @@ use Rattle.qc_event.proofs.LegalConfigs.{seen_legal}
 use Rattle.qc_event.proofs.SizedConfigs.{seen_sized}
 use Rattle.qc_desk.specs.Held.{held_row}
 use Rattle.qc_codec.proofs.Fits.{IsConfigInRange, config_fits, tuple_fits}
-use Rattle.qc_codec.specs.Fields.{format_1, datum, tuple}
+use Rattle.qc_codec.specs.Fields.{current, current_format, datum, tuple}
 
 -- the numbers of a tuple are in range
 pub record IsTupleInRange (t : Tuple) : Type 0 where
   pub version : t.version < 2 ^ 64
-  pub value : (datum 1).fits t.value
+  pub value : (datum current_format).fits t.value
   pub generation : t.generation < 2 ^ 64
   pub config : IsConfigInRange t.config
 
@@ -39,13 +39,13 @@ module _ (setting : Setting) (past : Past) (proper : IsProper setting) (legal : 
     | inr beyond ↦ let none = ap length (get_or_past setting.base copy [] beyond) in absurd (omega (arith, within, none))
   ]
 
-  pub held_all_fit : (held : List Tuple) → held ≡ held_row start past copy → All IsTupleInRange held → All (tuple (format_1 (length setting.base))).fits held
-  held_all_fit held is range = All-from_get_or (tuple (format_1 (length setting.base))).fits held no_tuple (λ k lt.
+  pub held_all_fit : (held : List Tuple) → held ≡ held_row start past copy → All IsTupleInRange held → All (tuple (current (length setting.base))).fits held
+  held_all_fit held is range = All-from_get_or (tuple (current (length setting.base))).fits held no_tuple (λ k lt.
       let t = slice_index_or held k no_tuple in
       let size : length held ≡ length start = ap length is ∙ length-map-range_with_len (seen setting.base past copy) 0 (length start) in
       let within : k < length start = omega (arith, lt, size) in
       let same : t ≡ seen setting.base past copy k = ap (λ row. get_or row k no_tuple) is ∙ get_or-map-range_with_len (seen setting.base past copy) 0 (length start) k k no_tuple within (omega arith) in
       let there : IsConfigFor (length setting.base) t.config = subst (λ (x : Tuple). IsConfigFor (length setting.base) x.config) (sym same) (config_held k within) in
       let numbers = range k no_tuple lt in
-      tuple_fits (format_1 (length setting.base)) t numbers.version numbers.value numbers.generation
-      (config_fits (format_1 (length setting.base)) t.config there.for_copies (legal_faultless t.config there.legal) numbers.config))
+      tuple_fits (current (length setting.base)) t numbers.version numbers.value numbers.generation
+      (config_fits (current (length setting.base)) t.config there.for_copies (legal_faultless t.config there.legal) numbers.config))

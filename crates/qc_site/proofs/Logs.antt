@@ -6,7 +6,7 @@ use Rattle.std.specs.Option.{option_map}
 use Rattle.std.proofs.lemmas.List.{drop_at, map-append, length-append, length-map}
 use Rattle.std.proofs.lemmas.List.Elements.{All-nil, All-cons, All-head, All-tail, All-append}
 use Rattle.qc_codec.specs.Bodies as body
-use Rattle.qc_codec.specs.Fields.{format_1}
+use Rattle.qc_codec.specs.Fields.{current}
 use Rattle.qc_codec.specs.Form.{all_of}
 use Rattle.qc_codec.proofs.Bodies.{exact_grant}
 use Rattle.qc_codec.proofs.Exact.{all_again}
@@ -51,12 +51,12 @@ map_is (g ∷ gs) (x ∷ xs) is =
 
 module _ (copies : ℕ) where
   abbrev Fit : Grant → Type 0
-  Fit = (body.grant (format_1 copies)).fits
+  Fit = (body.grant (current copies)).fits
 
-  read_again : (xs : List Grant) → All Fit xs → map (all_of (body.grant (format_1 copies))) (map (grant_body copies) xs) ≡ map Some xs
+  read_again : (xs : List Grant) → All Fit xs → map (all_of (body.grant (current copies))) (map (grant_body copies) xs) ≡ map Some xs
   read_again [] fit = refl
   read_again (x ∷ xs) fit =
-      ap₂ (λ (o : Option Grant) (os : List (Option Grant)). o ∷ os) (all_again (body.grant (format_1 copies)) (exact_grant (format_1 copies)) x (All-head Fit x xs fit)) (read_again xs (All-tail Fit x xs fit))
+      ap₂ (λ (o : Option Grant) (os : List (Option Grant)). o ∷ os) (all_again (body.grant (current copies)) (exact_grant (current copies)) x (All-head Fit x xs fit)) (read_again xs (All-tail Fit x xs fit))
 
   -- what is read is what was spelled
   same_grants : (gs xs : List Grant) → All Fit xs → AreGrants copies gs (map (grant_body copies) xs) → gs ≡ xs
@@ -65,9 +65,9 @@ module _ (copies : ℕ) where
   none_unread : (i : ℕ) (xs : List Grant) → All Fit xs → IsFirstUnread copies i (map (grant_body copies) xs) → ⊥
   none_unread i xs fit unread = at i xs fit (subst (λ n. i < n) (length-map xs (grant_body copies)) unread.0) unread.1
     where
-      at : (i : ℕ) (xs : List Grant) → All Fit xs → i < length xs → all_of (body.grant (format_1 copies)) (slice_index_or (map (grant_body copies) xs) i []) ≡ None → ⊥
+      at : (i : ℕ) (xs : List Grant) → All Fit xs → i < length xs → all_of (body.grant (current copies)) (slice_index_or (map (grant_body copies) xs) i []) ≡ None → ⊥
       at i [] fit less none = absurd (omega arith)
-      at zero (x ∷ xs) fit less none = let read = all_again (body.grant (format_1 copies)) (exact_grant (format_1 copies)) x (All-head Fit x xs fit) in cc
+      at zero (x ∷ xs) fit less none = let read = all_again (body.grant (current copies)) (exact_grant (current copies)) x (All-head Fit x xs fit) in cc
       at (suc i) (x ∷ xs) fit less none = at i xs (All-tail Fit x xs fit) (omega arith) none
 
 -- WHAT IS FOUND

@@ -2,6 +2,7 @@
 use Rattle.std.proofs.Common.{◌≡◌, inl, ℕ, ◌+◌, List, ◌++◌, refl, sym, ap, ◌∙◌, subst}
 use Rattle.std.specs.Prelude.{◌↔◌, Bool, true, false, not, Option, IsSome, Result, Ok, Err, IfErr, if◌then◌else◌}
 use Rattle.std.specs.Result.{IsErrAnd, IsErrOf}
+use Rattle.qc_codec.specs.Fields.{current_format}
 use Rattle.qc_codec.specs.declared.image.ImageFault.{ImageFault}
 use Rattle.qc_codec.specs.declared.past.Past.{Past}
 use Rattle.qc_disk.specs.declared.disk.Disk.{Ghosts}
@@ -18,7 +19,7 @@ use Rattle.qc_pair.specs.declared.fold.Fold.{Fold}
 use Rattle.qc_pair.specs.declared.kind.Kind.TheVariants as kind
 use Rattle.qc_pair.specs.declared.pair.Pair.{Pair}
 use Rattle.qc_pair.proofs.Halves.{active_has, active_keeps, opens_fold}
-use Rattle.qc_site.specs.Image.{to_write, AreGranted, AreMountableAsCopy, IsCopyFault}
+use Rattle.qc_site.specs.Image.{to_write, AreGranted, AreMadeIn, AreMountableAsCopy, IsCopyFault}
 use Rattle.qc_site.specs.Mounted.{journal_of, records_of}
 use Rattle.qc_site.specs.Pairs.{own_after, pair_no, spare_after, IsCopyPairNo, MountsCopyPair}
 use Rattle.qc_site.specs.Refusing.{IsOfCopyImage}
@@ -97,10 +98,10 @@ module _ (copy : ℕ) (table : Table) (past : Past) (limit : ℕ) (told spare_to
   -- what was begun over the active journal of an opened pair mounts it
   pub copy_mounted : {D : Type 0} {g : Ghosts D} (pair : Pair D g) (fold : Fold D g) (mounted : Mounted D g) (disk : ℕ) (found : List (List ℕ)) → OpensPair kind.Copy (copy + 1) told spare_told pair found
       → other_in fold ≡ other_of pair → active_number fold ≡ number_of pair → swapped_in fold ≡ swapped pair
-      → disk ≡ number_at (swapped pair) (copy + 1) → AreGranted disk table past found → (Keeps (active_of pair) found → AreMountableAsCopy disk table past limit found)
+      → disk ≡ number_at (swapped pair) (copy + 1) → AreMadeIn disk table current_format found → AreGranted disk table past found → (Keeps (active_of pair) found → AreMountableAsCopy disk table past limit found)
       → records_of mounted ≡ found ++ to_write disk table found → (Keeps (active_of pair) found → Keeps (journal_of mounted) (records_of mounted))
       → MountsCopyPair copy table past limit told spare_told mounted fold
-  copy_mounted pair fold mounted disk found opened other number same is granted fine all kept =
+  copy_mounted pair fold mounted disk found opened other number same is made granted fine all kept =
       let which = swapped_in fold in
       let at : disk ≡ number_at which (copy + 1) = is ∙ ap (λ (s : Bool). number_at s (copy + 1)) (sym same) in
       let opens = opens_fold kind.Copy (copy + 1) told spare_told pair fold found opened other number same in
@@ -108,6 +109,7 @@ module _ (copy : ℕ) (table : Table) (past : Past) (limit : ℕ) (told spare_to
       record {
         mounts = record {
           found = found;
+          now = subst (λ (n : ℕ). AreMadeIn n table current_format found) at made;
           granted = subst (λ (n : ℕ). AreGranted n table past found) at granted;
           fine = fine_told (AreMountableAsCopy (number_at which (copy + 1)) table past limit found) (tells which) found (active_has kind.Copy (copy + 1) told spare_told which found opens.have)
               (λ some. subst (λ (n : ℕ). AreMountableAsCopy n table past limit found) at (fine (keeps some)));

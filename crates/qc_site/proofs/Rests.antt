@@ -1,8 +1,8 @@
 -- What bodies behind the first tell, one by one.
 use Rattle.std.proofs.Common.{◌≡◌, ◌⊎◌, inl, inr, ⊎_elim, ℕ, zero, suc, ◌+◌, ◌<◌, ◌≤◌, List, [], ◌∷◌, ◌++◌, length, take, drop, get_or, refl, sym, ap, ap₂, ◌∙◌, subst, arith, append-nil}
-use Rattle.std.specs.Prelude.{◌==◌, Bool, true, false, if◌then◌else◌, is_some, Option, None, Some, MatchOption, Vec, slice_index_or}
+use Rattle.std.specs.Prelude.{◌==◌, Bool, true, false, if◌then◌else◌, is_some, Option, None, Some, MatchOption, Vec, slice_index_or, unwrap_or}
 use Rattle.std.specs.List.{cons_option}
-use Rattle.std.specs.Option.{option_and_then}
+use Rattle.std.specs.Option.{option_and_then, option_map}
 use Rattle.std.specs.declared.alloc.Global.{Global}
 use Rattle.std.proofs.lemmas.Bool.{eqb-true}
 use Rattle.std.proofs.lemmas.List.Elements.{filter_map-append}
@@ -10,12 +10,12 @@ use Rattle.qc_config.specs.declared.tuple.Tuple.{Tuple}
 use Rattle.qc_desk.specs.Held.{from_row}
 use Rattle.qc_event.specs.declared.event.Grant.{Grant}
 use Rattle.qc_event.specs.declared.table.Table.{Table}
-use Rattle.qc_codec.specs.Base.{base_in, copy_base, epoch_of_base, tuples_of_base}
+use Rattle.qc_codec.specs.Base.{base_in, copy_base, epoch_of_base, format_in, layout_of, tuples_of_base}
 use Rattle.qc_codec.specs.Bodies as body
-use Rattle.qc_codec.specs.Copy.{grant_form, AreInOrder, IsMadeOf, IsNextBody, MayFollow, MayStand}
-use Rattle.qc_codec.specs.Fields.{format_1}
+use Rattle.qc_codec.specs.Copy.{grant_in, granted_in, AreInOrder, IsMadeOf, IsNextBody, MayFollow, MayStand}
+use Rattle.qc_codec.specs.Fields.{current_format, layout}
 use Rattle.qc_codec.specs.Form.{Form, all_of, marked}
-use Rattle.qc_codec.specs.Ledger.{made_for, readings}
+use Rattle.qc_codec.specs.Ledger.{made_for, made_in, readings}
 use Rattle.qc_codec.specs.Restored.{restored_row}
 use Rattle.qc_codec.specs.declared.image.ImageFault.TheVariants.{Grammar}
 use Rattle.qc_codec.specs.declared.past.Past.{Past}
@@ -26,7 +26,7 @@ use Rattle.qc_codec.proofs.Exact.{all_again}
 use Rattle.qc_codec.proofs.Order.{each_none, each_push}
 use Rattle.qc_journal.specs.Image.{bodies_of}
 use Rattle.qc_ledger.proofs.Firsts.{one_more, parted, so_many}
-use Rattle.qc_site.specs.Image.{made_body, to_write, AreMadeFor}
+use Rattle.qc_site.specs.Image.{made_body, to_write, AreMadeIn}
 use Rattle.qc_site.specs.Reading.{IsLaterBad}
 
 -- TWO TAGS
@@ -44,17 +44,17 @@ module _ {A B : Type 0} (f : Form A) (h : Form B) (n k : ℕ) (apart : (n == k) 
       by true is = inr (untold h k b bytes (ap (λ m. m == k) (eqb-true b n is) ∙ apart))
       by false is = inl (untold f n b bytes is)
 
-made_or_granted : (table : Table) (bytes : List ℕ) → (all_of body.made bytes ≡ None) ⊎ (all_of (grant_form table) bytes ≡ None)
+made_or_granted : (format : ℕ) (table : Table) (bytes : List ℕ) → (all_of body.made bytes ≡ None) ⊎ (all_of (grant_in format table) bytes ≡ None)
 unfolding body.made body.grant
-made_or_granted table bytes = other_tag body.making (body.granted 3 (format_1 table.copies)) 1 2 refl bytes
+made_or_granted format table bytes = other_tag body.making (body.granted 3 (layout table.copies format)) 1 2 refl bytes
 
-base_or_granted : (kept table : Table) (bytes : List ℕ) → (all_of (copy_base kept) bytes ≡ None) ⊎ (all_of (grant_form table) bytes ≡ None)
+base_or_granted : (made : Made) (format : ℕ) (table : Table) (bytes : List ℕ) → (all_of (copy_base made) bytes ≡ None) ⊎ (all_of (grant_in format table) bytes ≡ None)
 unfolding body.base body.grant
-base_or_granted kept table bytes = other_tag (body.folded (format_1 kept.copies) (length kept.records)) (body.granted 3 (format_1 table.copies)) 4 2 refl bytes
+base_or_granted made format table bytes = other_tag (body.folded (layout_of made) (length made.table.records)) (body.granted 3 (layout table.copies format)) 4 2 refl bytes
 
 -- a base is no grant
-base_no_grant : (kept table : Table) (bytes : List ℕ) (b : BaseRecord) → all_of (copy_base kept) bytes ≡ Some b → all_of (grant_form table) bytes ≡ None
-base_no_grant kept table bytes b is = ⊎_elim (λ none. let never : None ≡ Some b = sym none ∙ is in absurd cc) (λ none. none) (base_or_granted kept table bytes)
+base_no_grant : (made : Made) (format : ℕ) (table : Table) (bytes : List ℕ) (b : BaseRecord) → all_of (copy_base made) bytes ≡ Some b → all_of (grant_in format table) bytes ≡ None
+base_no_grant made format table bytes b is = ⊎_elim (λ none. let never : None ≡ Some b = sym none ∙ is in absurd cc) (λ none. none) (base_or_granted made format table bytes)
 
 -- WHERE A BASE STANDS
 
@@ -72,20 +72,32 @@ base_early (suc (suc i)) [] some = refl
 base_early (suc (suc i)) (v ∷ []) some = refl
 base_early (suc (suc i)) (v ∷ w ∷ bodies) some = refl
 
-second_no_grant : (table : Table) (first second : List ℕ) (b : BaseRecord) → base_in copy_base (first ∷ second ∷ []) ≡ Some b → all_of (grant_form table) second ≡ None
-second_no_grant table first second b is = by (all_of body.made first) is
+second_no_grant : (format : ℕ) (table : Table) (first second : List ℕ) (b : BaseRecord) → base_in copy_base (first ∷ second ∷ []) ≡ Some b → all_of (grant_in format table) second ≡ None
+second_no_grant format table first second b is = by (all_of body.made first) is
   where
-    by : (o : Option Made) → option_and_then (λ (m : Made). all_of (copy_base m.table) second) o ≡ Some b → all_of (grant_form table) second ≡ None
+    by : (o : Option Made) → option_and_then (λ (m : Made). all_of (copy_base m) second) o ≡ Some b → all_of (grant_in format table) second ≡ None
     by None none = absurd cc
-    by (Some m) read = base_no_grant m.table table second b read
+    by (Some m) read = base_no_grant m format table second b read
+
+-- the format stands in the first body
+format_early : (i : ℕ) (bodies : List (Vec ℕ Global)) → 1 ≤ i → format_in (bodies_of (take i bodies)) ≡ format_in (bodies_of bodies)
+format_early zero bodies some = absurd (omega (arith, some))
+format_early (suc i) [] some = refl
+format_early (suc i) (v ∷ bodies) some = refl
 
 module _ (disk : ℕ) (table : Table) where
-  -- it is read by the table
-  pub second_read : (bodies : List (Vec ℕ Global)) (v : Vec ℕ Global) → 1 < length bodies → v ≡ get_or bodies 1 v → AreMadeFor disk table (bodies_of bodies) → base_in copy_base (bodies_of bodies) ≡ all_of (copy_base table) v.items
-  second_read [] v within is made = absurd (omega (arith, within))
-  second_read (first ∷ []) v within is made = absurd (omega (arith, within))
-  second_read (first ∷ second ∷ bodies) v within is made =
-      ap (option_and_then (λ (m : Made). all_of (copy_base m.table) second.items)) made ∙ ap (λ (w : Vec ℕ Global). all_of (copy_base table) w.items) (sym is)
+  -- it is read by the table, in the format
+  pub second_read : (format : ℕ) (bodies : List (Vec ℕ Global)) (v : Vec ℕ Global) → 1 < length bodies → v ≡ get_or bodies 1 v → AreMadeIn disk table format (bodies_of bodies)
+      → base_in copy_base (bodies_of bodies) ≡ all_of (copy_base (made_in format disk table)) v.items
+  second_read format [] v within is made = absurd (omega (arith, within))
+  second_read format (first ∷ []) v within is made = absurd (omega (arith, within))
+  second_read format (first ∷ second ∷ bodies) v within is made =
+      ap (option_and_then (λ (m : Made). all_of (copy_base m) second.items)) made ∙ ap (λ (w : Vec ℕ Global). all_of (copy_base (made_in format disk table)) w.items) (sym is)
+
+  -- which the first body tells
+  pub format_read : (format : ℕ) (bodies : List (Vec ℕ Global)) → 0 < length bodies → AreMadeIn disk table format (bodies_of bodies) → format ≡ format_in (bodies_of bodies)
+  format_read format [] some made = absurd (omega (arith, some))
+  format_read format (first ∷ bodies) some made = ap (λ (o : Option Made). unwrap_or (option_map (λ (m : Made). m.format) o) current_format) (sym made)
 
   -- what a mounting writes is none
   pub written_base : (found : List (List ℕ)) → base_in copy_base (found ++ to_write disk table found) ≡ base_in copy_base found
@@ -96,46 +108,46 @@ module _ (disk : ℕ) (table : Table) where
 
 module _ (disk : ℕ) (table : Table) (past : Past) where
   -- how the disk was made may stand first
-  pub made_stands : (bytes : List ℕ) (kept : Table) → all_of body.made bytes ≡ Some (made_for disk kept) → MayStand disk table past [] bytes
-  made_stands bytes kept is = subst (λ (o : Option Made). MatchOption o ⊥ (IsMadeOf disk)) (sym is) refl
+  pub made_stands : (bytes : List ℕ) (format : ℕ) (kept : Table) → all_of body.made bytes ≡ Some (made_in format disk kept) → MayStand disk table past [] bytes
+  made_stands bytes format kept is = subst (λ (o : Option Made). MatchOption o ⊥ (IsMadeOf disk)) (sym is) refl
 
-  made_no_grant : (bytes : List ℕ) → MayStand disk table past [] bytes → all_of (grant_form table) bytes ≡ None
-  made_no_grant bytes may = ⊎_elim
+  made_no_grant : (format : ℕ) (bytes : List ℕ) → MayStand disk table past [] bytes → all_of (grant_in format table) bytes ≡ None
+  made_no_grant format bytes may = ⊎_elim
       (λ none. absurd (subst (λ (o : Option Made). MatchOption o ⊥ (IsMadeOf disk)) none may))
       (λ none. none)
-      (made_or_granted table bytes)
+      (made_or_granted format table bytes)
 
-  made_tells_none : (bytes : List ℕ) → MayStand disk table past [] bytes → readings (grant_form table) (bytes ∷ []) ≡ []
-  made_tells_none bytes may = ap (λ (o : Option Grant). cons_option o []) (made_no_grant bytes may)
+  made_tells_none : (format : ℕ) (bytes : List ℕ) → MayStand disk table past [] bytes → readings (grant_in format table) (bytes ∷ []) ≡ []
+  made_tells_none format bytes may = ap (λ (o : Option Grant). cons_option o []) (made_no_grant format bytes may)
 
   alone : (bytes : List ℕ) → MayStand disk table past [] bytes → AreInOrder disk table past (bytes ∷ [])
   alone bytes may = each_push (MayStand disk table past) [] bytes (each_none (MayStand disk table past)) may
 
   -- So many bodies stand in front of the grants.
-  pub record HasBegun (base : Option BaseRecord) (bodies : List (Vec ℕ Global)) (n : ℕ) : Type 0 where
-    pub told : readings (grant_form table) (bodies_of (take n bodies)) ≡ []
+  pub record HasBegun (format : ℕ) (base : Option BaseRecord) (bodies : List (Vec ℕ Global)) (n : ℕ) : Type 0 where
+    pub told : readings (grant_in format table) (bodies_of (take n bodies)) ≡ []
     pub order : AreInOrder disk table past (bodies_of (take n bodies))
     pub based : base_in copy_base (bodies_of (take n bodies)) ≡ base
     pub some : 1 ≤ n
 
-  pub begun : (base : Option BaseRecord) (bodies : List (Vec ℕ Global)) → 0 < length bodies → MayStand disk table past [] (slice_index_or (bodies_of bodies) 0 []) → base ≡ base_in copy_base (bodies_of bodies) → epoch_of_base base ≤ past.epoch
-      → HasBegun base bodies (if is_some base then 2 else 1)
-  begun base [] some may is old = absurd (omega (arith, some))
-  begun None (v ∷ bodies) some may is old = record { told = made_tells_none v.items may; order = alone v.items may; based = refl; some = omega arith }
-  begun (Some b) (v ∷ []) some may is old = absurd cc
-  begun (Some b) (v ∷ w ∷ bodies) some may is old = record {
-    told = ap₂ (λ (o p : Option Grant). cons_option o (cons_option p [])) (made_no_grant v.items may) (second_no_grant table v.items w.items b (sym is));
+  pub begun : (format : ℕ) (base : Option BaseRecord) (bodies : List (Vec ℕ Global)) → 0 < length bodies → MayStand disk table past [] (slice_index_or (bodies_of bodies) 0 []) → base ≡ base_in copy_base (bodies_of bodies) → epoch_of_base base ≤ past.epoch
+      → HasBegun format base bodies (if is_some base then 2 else 1)
+  begun format base [] some may is old = absurd (omega (arith, some))
+  begun format None (v ∷ bodies) some may is old = record { told = made_tells_none format v.items may; order = alone v.items may; based = refl; some = omega arith }
+  begun format (Some b) (v ∷ []) some may is old = absurd cc
+  begun format (Some b) (v ∷ w ∷ bodies) some may is old = record {
+    told = ap₂ (λ (o p : Option Grant). cons_option o (cons_option p [])) (made_no_grant format v.items may) (second_no_grant format table v.items w.items b (sym is));
     order = each_push (MayStand disk table past) (v.items ∷ []) w.items (alone v.items may) (inl (subst (λ (o : Option BaseRecord). MatchOption o ⊥ (λ (x : BaseRecord). x.epoch ≤ past.epoch)) is old));
     based = sym is;
     some = omega arith;
   }
 
   -- a base of a later epoch is the first fault
-  pub second_bad : (bodies : List (Vec ℕ Global)) (v : Vec ℕ Global) → 1 < length bodies → v ≡ get_or bodies 1 v → AreMadeFor disk table (bodies_of bodies) → (b : BaseRecord) → all_of (copy_base table) v.items ≡ Some b → (b.epoch ≤ past.epoch → ⊥)
+  pub second_bad : (format : ℕ) (bodies : List (Vec ℕ Global)) (v : Vec ℕ Global) → 1 < length bodies → v ≡ get_or bodies 1 v → AreMadeIn disk table format (bodies_of bodies) → (b : BaseRecord) → all_of (copy_base (made_in format disk table)) v.items ≡ Some b → (b.epoch ≤ past.epoch → ⊥)
       → IsLaterBad disk table past (bodies_of bodies) (Grammar 1)
-  second_bad [] v within is made b read late = absurd (omega (arith, within))
-  second_bad (first ∷ []) v within is made b read late = absurd (omega (arith, within))
-  second_bad (first ∷ second ∷ bodies) v within is made b read late = (
+  second_bad format [] v within is made b read late = absurd (omega (arith, within))
+  second_bad format (first ∷ []) v within is made b read late = absurd (omega (arith, within))
+  second_bad format (first ∷ second ∷ bodies) v within is made b read late = (
     (λ none. omega (arith, none)),
     record {
       before = first.items ∷ [];
@@ -143,33 +155,34 @@ module _ (disk : ℕ) (table : Table) (past : Past) where
       item = second.items;
       split = refl;
       size = refl;
-      order = alone first.items (made_stands first.items table made);
+      order = alone first.items (made_stands first.items format table made);
       breaks = never;
     },
   )
     where
       based : base_in copy_base (first.items ∷ second.items ∷ []) ≡ Some b
-      based = second_read disk table (first ∷ second ∷ bodies) v within is made ∙ read
+      based = second_read disk table format (first ∷ second ∷ bodies) v within is made ∙ read
 
       never : MayStand disk table past (first.items ∷ []) second.items → ⊥
       never (inl old) = late (subst (λ (o : Option BaseRecord). MatchOption o ⊥ (λ (x : BaseRecord). x.epoch ≤ past.epoch)) based old)
-      never (inr may) = subst (λ (o : Option Grant). MatchOption o ⊥ (MayFollow table past 0 [])) (second_no_grant table first.items second.items b based)
-          (subst (λ (gs : List Grant). MatchOption (all_of (grant_form table) second.items) ⊥ (MayFollow table past 0 gs)) (made_tells_none first.items (made_stands first.items table made)) may)
+      never (inr may) = subst (λ (o : Option Grant). MatchOption o ⊥ (MayFollow table past 0 (granted_in table (first.items ∷ []))))
+          (second_no_grant (format_in (first.items ∷ [])) table first.items second.items b based) may
 
   -- what a mounting writes grants nothing
-  pub written_none : (fits : body.made.fits (made_for disk table)) (found : List (List ℕ)) → readings (grant_form table) (found ++ to_write disk table found) ≡ readings (grant_form table) found
-  written_none fits [] = made_tells_none (made_body disk table) (made_stands (made_body disk table) table (all_again body.made exact_made (made_for disk table) fits))
-  written_none fits (first ∷ bodies) = ap (readings (grant_form table)) (append-nil (first ∷ bodies))
+  pub written_none : (fits : body.made.fits (made_for disk table)) (found : List (List ℕ)) → granted_in table (found ++ to_write disk table found) ≡ granted_in table found
+  written_none fits [] = made_tells_none (format_in (made_body disk table ∷ [])) (made_body disk table)
+      (made_stands (made_body disk table) current_format table (all_again body.made exact_made (made_for disk table) fits))
+  written_none fits (first ∷ bodies) = ap (granted_in table) (append-nil (first ∷ bodies))
 
   -- what a copy starts with is told by all of its records
   pub start_told : (fits : body.made.fits (made_for disk table)) (found records : List (List ℕ)) → records ≡ found ++ to_write disk table found → (start : List Tuple)
-      → start ≡ restored_row past.tops (length table.records) (from_row (tuples_of_base table (base_in copy_base found))) (readings (grant_form table) found)
-      → start ≡ restored_row past.tops (length table.records) (from_row (tuples_of_base table (base_in copy_base records))) (readings (grant_form table) records)
+      → start ≡ restored_row past.tops (length table.records) (from_row (tuples_of_base table (base_in copy_base found))) (granted_in table found)
+      → start ≡ restored_row past.tops (length table.records) (from_row (tuples_of_base table (base_in copy_base records))) (granted_in table records)
   start_told fits found records all start is =
       is
       ∙ ap₂ (λ (base : Option BaseRecord) (gs : List Grant). restored_row past.tops (length table.records) (from_row (tuples_of_base table base)) gs)
       (sym (written_base disk table found) ∙ ap (base_in copy_base) (sym all))
-      (sym (written_none fits found) ∙ ap (readings (grant_form table)) (sym all))
+      (sym (written_none fits found) ∙ ap (granted_in table) (sym all))
 
   -- BODIES BEHIND THEM
 
@@ -185,7 +198,7 @@ module _ (disk : ℕ) (table : Table) (past : Past) where
   by_stands (first ∷ second ∷ bodies) bytes some same may = may
 
   module _ (bodies : List (Vec ℕ Global)) (i : ℕ) (v : Vec ℕ Global) (within : i < length bodies) (is : v ≡ get_or bodies i v) (some : 1 ≤ i) (order : AreInOrder disk table past (bodies_of (take i bodies)))
-      (base : Option BaseRecord) (whole : base ≡ base_in copy_base (bodies_of bodies)) (based : base_in copy_base (bodies_of (take i bodies)) ≡ base) (epoch : ℕ) (of_base : epoch ≡ epoch_of_base base) where
+      (format : ℕ) (of : format ≡ format_in (bodies_of bodies)) (base : Option BaseRecord) (whole : base ≡ base_in copy_base (bodies_of bodies)) (based : base_in copy_base (bodies_of (take i bodies)) ≡ base) (epoch : ℕ) (of_base : epoch ≡ epoch_of_base base) where
     abbrev so_far : List (List ℕ)
     so_far = bodies_of (take i bodies)
 
@@ -196,8 +209,19 @@ module _ (disk : ℕ) (table : Table) (past : Past) where
     same_epoch : epoch ≡ epoch_of_base (base_in copy_base so_far)
     same_epoch = of_base ∙ ap epoch_of_base (sym based)
 
+    same_format : format ≡ format_in so_far
+    same_format = of ∙ sym (format_early i bodies (omega (arith, some)))
+
+    -- what may stand behind those before it, by their format and the epoch of their base
+    abbrev May : List ℕ → Type 0
+    May bytes = MatchOption (all_of (grant_in format table) bytes) ⊥ (MayFollow table past epoch (readings (grant_in format table) so_far))
+
+    next_is : (bytes : List ℕ) → May bytes ≡ IsNextBody disk table past so_far bytes
+    next_is bytes =
+        ap₂ (λ (f e : ℕ). MatchOption (all_of (grant_in f table) bytes) ⊥ (MayFollow table past e (readings (grant_in f table) so_far))) same_format same_epoch
+
     -- a body that may not stand behind those before it is the first fault
-    pub later_bad : (MatchOption (all_of (grant_form table) v.items) ⊥ (MayFollow table past epoch (readings (grant_form table) so_far)) → ⊥) → IsLaterBad disk table past (bodies_of bodies) (Grammar i)
+    pub later_bad : (May v.items → ⊥) → IsLaterBad disk table past (bodies_of bodies) (Grammar i)
     later_bad never = (
       (λ none. omega (arith, some, none)),
       record {
@@ -207,18 +231,18 @@ module _ (disk : ℕ) (table : Table) (past : Past) where
         split = parted bodies i v within is;
         size = so_many bodies i v within is;
         order = order;
-        breaks = λ may. never (subst (λ n. MatchOption (all_of (grant_form table) v.items) ⊥ (MayFollow table past n (readings (grant_form table) so_far))) (sym same_epoch)
+        breaks = λ may. never (subst (λ (T : Type 0). T) (sym (next_is v.items))
             (by_stands so_far v.items (omega (arith, some, so_many bodies i v within is)) (ap (base_in copy_base) (sym (one_more bodies i v within is)) ∙ base_kept ∙ sym based) may));
       },
     )
 
     -- a body that may stand behind those before it
-    pub keeps_on : (given : List Grant) (bytes : List ℕ) → bytes ≡ v.items → given ≡ readings (grant_form table) so_far → MatchOption (all_of (grant_form table) bytes) ⊥ (MayFollow table past epoch given)
-        → (given ++ readings (grant_form table) (bytes ∷ []) ≡ readings (grant_form table) (bodies_of (take (i + 1) bodies))) × AreInOrder disk table past (bodies_of (take (i + 1) bodies))
+    pub keeps_on : (given : List Grant) (bytes : List ℕ) → bytes ≡ v.items → given ≡ readings (grant_in format table) so_far → MatchOption (all_of (grant_in format table) bytes) ⊥ (MayFollow table past epoch given)
+        → (given ++ readings (grant_in format table) (bytes ∷ []) ≡ readings (grant_in format table) (bodies_of (take (i + 1) bodies))) × AreInOrder disk table past (bodies_of (take (i + 1) bodies))
     keeps_on given bytes same told may =
-        let follows = subst (λ n. MatchOption (all_of (grant_form table) bytes) ⊥ (MayFollow table past n given)) same_epoch may in
-        let stands = stands_by so_far bytes (omega (arith, some, so_many bodies i v within is)) (subst (λ (gs : List Grant). MatchOption (all_of (grant_form table) bytes) ⊥ (MayFollow table past (epoch_of_base (base_in copy_base so_far)) gs)) told follows) in
+        let follows : May bytes = subst (λ (gs : List Grant). MatchOption (all_of (grant_in format table) bytes) ⊥ (MayFollow table past epoch gs)) told may in
+        let stands = stands_by so_far bytes (omega (arith, some, so_many bodies i v within is)) (subst (λ (T : Type 0). T) (next_is bytes) follows) in
         let all : so_far ++ bytes ∷ [] ≡ bodies_of (take (i + 1) bodies) = ap (λ (b : List ℕ). so_far ++ b ∷ []) same ∙ sym (one_more bodies i v within is) in (
-          ap (λ (gs : List Grant). gs ++ readings (grant_form table) (bytes ∷ [])) told ∙ sym (filter_map-append (all_of (grant_form table)) so_far (bytes ∷ [])) ∙ ap (readings (grant_form table)) all,
+          ap (λ (gs : List Grant). gs ++ readings (grant_in format table) (bytes ∷ [])) told ∙ sym (filter_map-append (all_of (grant_in format table)) so_far (bytes ∷ [])) ∙ ap (readings (grant_in format table)) all,
           subst (AreInOrder disk table past) all (each_push (MayStand disk table past) so_far bytes order stands),
         )

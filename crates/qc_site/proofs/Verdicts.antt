@@ -6,7 +6,7 @@ use Rattle.qc_event.specs.declared.table.Table.{Table}
 use Rattle.qc_codec.specs.Bodies as body
 use Rattle.qc_codec.specs.Copy.{IsOutOfOrder, MayStand}
 use Rattle.qc_codec.specs.Form.{all_of}
-use Rattle.qc_codec.specs.Ledger.{made_for}
+use Rattle.qc_codec.specs.Ledger.{made_in}
 use Rattle.qc_codec.specs.declared.image.ImageFault.{ImageFault}
 use Rattle.qc_codec.specs.declared.image.ImageFault.TheVariants.{Broken, Grammar, Full, Table as OtherTable, Epoch}
 use Rattle.qc_codec.specs.declared.past.Past.{Past}
@@ -22,15 +22,15 @@ module _ (disk : ℕ) where
   same_table : (bodies : List (List ℕ)) (t k : Table) → bodies ≢ [] → AreMadeFor disk t bodies → AreMadeFor disk k bodies → k ≡ t
   same_table [] t k some one two = absurd (some refl)
   same_table (first ∷ bodies) t k some one two =
-      let both : Some (made_for disk k) ≡ Some (made_for disk t) = sym two ∙ one in
-      let made : made_for disk k ≡ made_for disk t = cc in
+      let both : Some (made_in two.0 disk k) ≡ Some (made_in one.0 disk t) = sym two.1 ∙ one.1 in
+      let made : made_in two.0 disk k ≡ made_in one.0 disk t = cc in
       ap (λ (m : Made). m.table) made
 
   module _ (table : Table) (past : Past) where
     first_by : (bodies before after : List (List ℕ)) (bytes : List ℕ) (k : Table) → AreMadeFor disk k bodies → bodies ≡ before ++ bytes ∷ after → length before ≡ 0 → (MayStand disk table past before bytes → ⊥) → ⊥
     first_by [] [] after bytes k made split size breaks = absurd cc
     first_by [] (b ∷ before) after bytes k made split size breaks = absurd cc
-    first_by (f ∷ bodies) [] after bytes k made split size breaks = let same : f ≡ bytes = cc in breaks (made_stands disk table past bytes k (subst (λ (x : List ℕ). all_of body.made x ≡ Some (made_for disk k)) same made))
+    first_by (f ∷ bodies) [] after bytes k made split size breaks = let same : f ≡ bytes = cc in breaks (made_stands disk table past bytes made.0 k (subst (λ (x : List ℕ). all_of body.made x ≡ Some (made_in made.0 disk k)) same made.1))
     first_by (f ∷ bodies) (b ∷ before) after bytes k made split size breaks = absurd (omega (arith, size))
 
     first_stands : (bodies : List (List ℕ)) (k : Table) (i : ℕ) → AreMadeFor disk k bodies → IsOutOfOrder disk table past i bodies → i ≡ 0 → ⊥

@@ -2,7 +2,7 @@
 use Rattle.std.specs.Prelude.{ℕ, ◌≡◌, ◌≢◌, ◌+◌, ◌<◌, ◌≤◌, ◌⊎◌, Bool, true, false, List, [], ◌∷◌, ◌++◌, length, map, take, drop, slice_get, slice_index_or, Option, None, Some, Result, Ok, Err}
 use Rattle.qc_event.specs.declared.event.Grant.{Grant}
 use Rattle.qc_codec.specs.Bodies as body
-use Rattle.qc_codec.specs.Fields.{format_1}
+use Rattle.qc_codec.specs.Fields.{current}
 use Rattle.qc_codec.specs.Form.{all_of}
 use Rattle.qc_journal.specs.Image.{HasRecords, IsBroken}
 use Rattle.qc_disk.specs.declared.disk.Disk.{Ghosts}
@@ -16,15 +16,15 @@ use Rattle.qc_site.specs.declared.back.Strange.TheVariants.{Broken, Grammar, Sho
 
 -- the body of a grant's record, in a store of so many copies
 abbrev pub grant_body : ℕ → Grant → List ℕ
-grant_body copies g = (body.grant (format_1 copies)).spell g
+grant_body copies g = (body.grant (current copies)).spell g
 
 -- each body is a grant, and together they are these
 abbrev pub AreGrants : ℕ → List Grant → List (List ℕ) → Type 0
-AreGrants copies gs bodies = map (all_of (body.grant (format_1 copies))) bodies ≡ map Some gs
+AreGrants copies gs bodies = map (all_of (body.grant (current copies))) bodies ≡ map Some gs
 
 -- the first body that is no grant has this index
 abbrev pub IsFirstUnread : ℕ → ℕ → List (List ℕ) → Type 0
-IsFirstUnread copies index bodies = (index < length bodies) × (all_of (body.grant (format_1 copies)) (slice_index_or bodies index []) ≡ None) × ((gs : List Grant) × AreGrants copies gs (take index bodies))
+IsFirstUnread copies index bodies = (index < length bodies) × (all_of (body.grant (current copies)) (slice_index_or bodies index []) ≡ None) × ((gs : List Grant) × AreGrants copies gs (take index bodies))
 
 -- two lists first differ at this index
 abbrev pub IsFirstApart : {A : Type 0} → ℕ → List A → List A → Type 0

@@ -3,7 +3,7 @@ use Rattle.std.specs.Prelude.{ℕ, ◌≡◌, ◌≢◌, List, []}
 use Rattle.qc_event.specs.declared.table.Table.{Table}
 use Rattle.qc_codec.specs.Bodies as body
 use Rattle.qc_codec.specs.Copy.{AreInOrder, IsOutOfOrder}
-use Rattle.qc_codec.specs.Ledger.{made_for}
+use Rattle.qc_codec.specs.Ledger.{made_for, made_in}
 use Rattle.qc_codec.specs.declared.image.ImageFault.{ImageFault}
 use Rattle.qc_codec.specs.declared.image.ImageFault.TheVariants.{Broken, Grammar, Full, Table as OtherTable, Epoch}
 use Rattle.qc_codec.specs.declared.past.Past.{Past}
@@ -18,9 +18,13 @@ module _ (disk : ℕ) (table : Table) where
   abbrev pub to_write : List (List ℕ) → List (List ℕ)
   to_write = made_where_none made_body
 
-  -- the first of these bodies, where there is one, says that a disk of a copy's was made for a table
+  -- the first of these bodies, where there is one, says that a disk of a copy's was made for a table, in this format
+  abbrev pub AreMadeIn : ℕ → List (List ℕ) → Type 0
+  AreMadeIn format = BeginWith body.made (made_in format disk table)
+
+  -- it says so in some format
   abbrev pub AreMadeFor : List (List ℕ) → Type 0
-  AreMadeFor = BeginWith body.made (made_for disk table)
+  AreMadeFor bodies = (format : ℕ) × AreMadeIn format bodies
 
   -- Bodies are those of a disk of a copy's for a table, in order behind a ledger's past.
   pub record AreGranted (past : Past) (bodies : List (List ℕ)) : Type 0 where

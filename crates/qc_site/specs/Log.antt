@@ -2,7 +2,7 @@
 use Rattle.std.specs.Prelude.{ℕ, ◌≡◌, ◌⊎◌, List, [], ◌++◌, length, map, option_to_list, All, Option, None}
 use Rattle.std.specs.Option.{option_map}
 use Rattle.qc_codec.specs.Bodies as body
-use Rattle.qc_codec.specs.Fields.{format_1}
+use Rattle.qc_codec.specs.Fields.{current}
 use Rattle.qc_disk.specs.declared.disk.Disk.{Ghosts}
 use Rattle.qc_event.specs.declared.event.Grant.{Grant}
 use Rattle.qc_journal.specs.Journal.{in_hand, IsDown, IsUp, Keeps}
@@ -34,7 +34,7 @@ module _ {D : Type 0} {g : Ghosts D} where
     pub keeps : Keeps log.journal (before ++ map (grant_body log.copies) (given ++ rest))
     pub in_journal : (in_hand log.journal ≡ None) ⊎ ((in_hand log.journal ≡ option_map (grant_body log.copies) hand) × (rest ≡ []))
     pub size : log.earlier ≡ length before
-    pub fits : All (body.grant (format_1 log.copies)).fits (given ++ option_to_list hand)
+    pub fits : All (body.grant (current log.copies)).fits (given ++ option_to_list hand)
 
   -- what a refused writing leaves: a fault of the disk takes it down; one for room leaves it up, as it was
   abbrev pub WriteLeaves : GrantLog D g → GrantLog D g → Fault → Type 0

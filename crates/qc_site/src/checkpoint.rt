@@ -1,7 +1,7 @@
 //! How a copy's journal is folded into the other one of its pair.
 ghost use Rattle.std.specs.Prelude.{◌≡◌, ◌↔◌, ◌≤◌, ◌⊎◌, ◌^◌, ℕ, List, [], true, All, IfOk, IfErr, OnOk, IsErrOf, Err, None, is_some, length, slice_index_or};
 ghost use Rattle.qc_codec.specs.Fields as field;
-ghost use Rattle.qc_codec.specs.Fields.{format_1};
+ghost use Rattle.qc_codec.specs.Fields.{current};
 ghost use Rattle.qc_disk.specs.Disk.{LeavesOnly};
 ghost use Rattle.qc_event.specs.Base.{IsProper};
 ghost use Rattle.qc_event.specs.History.{grants};
@@ -95,7 +95,7 @@ impl<D: Disk, N: Store, const C: u8> Site<D, N, C> {
             (IsFolding bodies (made_in fold.old) (folded_base fold.old held.items)) }
         ensures refused { IfErr result (IsFoldRefusal C fold.old held.items) }
         ensures room { OnOk result ((place : ℕ) → IsFullFor fold.old held.items place → ⊥) }
-        ensures fits { All (field.tuple (format_1 (length N.base))).fits held.items }
+        ensures fits { All (field.tuple (current (length N.base))).fits held.items }
         ensures last { 2 ^ 63 ≤ active_number fold.old
             → other_in fold.new ≡ other_in fold.old }
         ensures cause { Costs (other_in fold.old) (other_in fold.new)
@@ -156,9 +156,9 @@ impl<D: Disk, N: Store, const C: u8> Site<D, N, C> {
 
         // What is folded fits the form of a base, or nothing was begun.
         ensures fits { (other_in fold.new ≡ other_in fold.old)
-            ⊎ All (field.tuple (format_1 (length N.base))).fits
+            ⊎ All (field.tuple (current (length N.base))).fits
             (held_by (slice_index_or N.base C []) C self.new.replica) }
-        ensures fit { OnOk result (All (field.tuple (format_1 (length N.base))).fits
+        ensures fit { OnOk result (All (field.tuple (current (length N.base))).fits
             (held_by (slice_index_or N.base C []) C self.new.replica)) }
 
         // It is strange exactly where it says so. Full comes where a body would pass the limit or the last number was used

@@ -11,7 +11,7 @@ ghost use Rattle.qc_desk.specs.Consulting.{HasAsked};
 ghost use Rattle.qc_desk.specs.Held.{held_row};
 ghost use Rattle.qc_codec.specs.Bodies as body;
 ghost use Rattle.qc_codec.specs.Fields as field;
-ghost use Rattle.qc_codec.specs.Fields.{format_1};
+ghost use Rattle.qc_codec.specs.Fields.{current};
 
 use qc_config::{Config, Tuple};
 use qc_desk::{Pass, Store};
@@ -46,7 +46,7 @@ pub(crate) fn known_to_fit<N: Store>(pass: &Pass<N>, copies: u8, ask: &Ask, tupl
     requires asked { HasAsked pass.now.seen ask.now }
     requires tuple { tuple.now ≡ after (seen N.base pass.now.seen ask.now.copy ask.now.rec)
         ask.now.op }
-    ensures fits { (body.grant (format_1 copies)).fits (grant_with ask.now tuple.now) }
+    ensures fits { (body.grant (current copies)).fits (grant_with ask.now tuple.now) }
 {
     name_in_range(&ask.access);
     config_in_range(&tuple.config);
@@ -61,7 +61,7 @@ pub(crate) fn held_to_fit<N: Store>(pass: &Pass<N>, copy: u8, held: &[Tuple])
     requires proper { IsProper (setting_of N.table N.base) }
     requires legal { Legal (setting_of N.table N.base) pass.now.seen }
     requires held { held.now ≡ held_row (slice_index_or N.base copy []) pass.now.seen copy }
-    ensures fits { All (field.tuple (format_1 (length N.base))).fits held.now }
+    ensures fits { All (field.tuple (current (length N.base))).fits held.now }
 {
     for tuple in held {
         config_in_range(&tuple.config);

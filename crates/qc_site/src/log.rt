@@ -1,7 +1,7 @@
 //! The journal of what a copy grants.
 ghost use Rattle.std.specs.Prelude.{◌≡◌, ◌≤◌, ◌↔◌, ℕ, List, IfOk, IfErr, IfSome, IsErrOf, IsTrue, OnOk, OnErr, Option, None, Some, Ok, Err, true, if◌then◌else◌};
 ghost use Rattle.qc_codec.specs.Bodies as body;
-ghost use Rattle.qc_codec.specs.Fields.{format_1};
+ghost use Rattle.qc_codec.specs.Fields.{current};
 ghost use Rattle.qc_event.specs.declared.event.Grant.{Grant};
 ghost use Rattle.qc_journal.specs.Journal.{disk_of, limit_of, place_of, IsDown, IsTooLong, IsUp, Keeps};
 ghost use Rattle.qc_journal.specs.declared.fault.Fault.TheVariants.{Full};
@@ -51,7 +51,7 @@ impl<D: Disk> GrantLog<D> {
     /// Writes a grant, which is in hand then, unless nothing was done. From `Ok` on it is in each image.
     pub(crate) fn write(&mut self, grant: &Grant) -> Result<(), Fault>
         requires up { IsUp (log_journal self.old) }
-        requires proper { (body.grant (format_1 (copies_of self.old))).fits grant.now }
+        requires proper { (body.grant (current (copies_of self.old))).fits grant.now }
 
         // At `Ok` it is up, with the grant in hand. Full comes where the record would pass the limit, or else memory is
         // wanting, and changes nothing.

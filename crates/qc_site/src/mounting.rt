@@ -2,9 +2,10 @@
 ghost use Rattle.std.specs.Prelude.{◌≡◌, ◌<◌, ◌≤◌, ◌+◌, length, not, false, true, IfOk, IfErr, OnOk, IsErrOf, IsErrAnd};
 ghost use Rattle.qc_codec.specs.Base.{base_in, copy_base, tuples_of_base};
 ghost use Rattle.qc_codec.specs.Bodies as body;
-ghost use Rattle.qc_codec.specs.Copy.{grant_form};
-ghost use Rattle.qc_codec.specs.Ledger.{readings};
+ghost use Rattle.qc_codec.specs.Copy.{granted_in};
+ghost use Rattle.qc_codec.specs.Fields.{current_format};
 ghost use Rattle.qc_codec.specs.Restored.{restored_row};
+ghost use Rattle.qc_codec.specs.declared.record.Made.{Made};
 ghost use Rattle.qc_desk.specs.Held.{from_row};
 ghost use Rattle.qc_journal.specs.Image.{bodies_of};
 ghost use Rattle.qc_journal.specs.Journal.{limit_of, IsUp};
@@ -14,7 +15,7 @@ ghost use Rattle.qc_ledger.specs.Runs.{Costs, CostsOnce, HasMore, KeepsAll, Leav
 ghost use Rattle.qc_pair.specs.Fold.{swapped_in, IsFoldFor};
 ghost use Rattle.qc_pair.specs.Pair.{number_at};
 ghost use Rattle.qc_pair.specs.declared.kind.Kind.TheVariants as kind;
-ghost use Rattle.qc_site.specs.Image.{made_body, to_write, AreGranted, AreMountableAsCopy, IsCopyFault};
+ghost use Rattle.qc_site.specs.Image.{made_body, to_write, AreGranted, AreMadeIn, AreMountableAsCopy, IsCopyFault};
 ghost use Rattle.qc_site.specs.Mounted.{copies_of, copy_of, journal_of, records_of};
 ghost use Rattle.qc_site.specs.Pairs.{own_after, spare_after, IsCopyPairNo, MountsCopyPair};
 ghost use Rattle.qc_site.specs.Refusing.{IsOfCopyImage};
@@ -35,7 +36,7 @@ use std::alloc::{AllocError, Global};
 
 /// The body that says that the disk of a number was made for a table.
 pub(crate) fn made_of(alloc: Global, who: u8, table: &Table) -> Result<Body, AllocError>
-    requires proper { (body.table 1).fits table.now }
+    requires proper { (body.table current_format).fits table.now }
     ensures { IfOk result (λ made. made.items ≡ made_body who table.now) }
 {
     let made = Made {
@@ -57,12 +58,14 @@ pub(crate) fn begin<D: Disk>(
 ) -> Result<Beginning, SiteNo>
     requires up { IsUp journal.old }
     requires few { table.now.copies ≤ 16 }
-    requires proper { (body.table 1).fits table.now }
+    requires proper { (body.table current_format).fits table.now }
     ensures up { OnOk result (IsUp journal.new) }
     ensures start { IfOk result (λ start. start ≡ restored_row past.now.tops
         (length table.now.records)
         (from_row (tuples_of_base table.now (base_in copy_base (bodies_of bodies.old.items))))
-        (readings (grant_form table.now) (bodies_of bodies.old.items))) }
+        (granted_in table.now (bodies_of bodies.old.items))) }
+    ensures now { OnOk result (AreMadeIn who table.now current_format
+        (bodies_of bodies.old.items)) }
     ensures granted { OnOk result (AreGranted who table.now past.now
         (bodies_of bodies.old.items)) }
     ensures fine { OnOk result (KeepsAll journal.old bodies.old
@@ -108,7 +111,7 @@ pub fn mount_pair<D: Disk>(
     limit: u64,
 ) -> Result<(Mounted<D>, Fold<D>), (D, D, PairNo)>
     requires copy { copy < table.now.copies }
-    requires proper { (body.table 1).fits table.now }
+    requires proper { (body.table current_format).fits table.now }
     requires begun { 0 < epoch }
 
     // Records were found on the active disk, which are this copy's for this table, in order behind this past. Where it
@@ -127,7 +130,7 @@ pub fn mount_pair<D: Disk>(
     ensures start { IfOk result (λ mounted. start_of mounted.0 ≡ restored_row past.now.tops
         (length table.now.records)
         (from_row (tuples_of_base table.now (base_in copy_base (records_of mounted.0))))
-        (readings (grant_form table.now) (records_of mounted.0))) }
+        (granted_in table.now (records_of mounted.0))) }
 
     // It is refused for the pair's first fault, where the disks tell their bytes.
     ensures refused { IfErr result (λ refused. IsCopyPairNo copy table.now past.now limit

@@ -3,7 +3,7 @@ ghost use Rattle.std.specs.Prelude.{◌≡◌, ◌<◌, ◌≤◌, ◌⊎◌, �
 ghost use Rattle.qc_config.specs.declared.tuple.Tuple.{Tuple};
 ghost use Rattle.qc_codec.specs.Bodies as body;
 ghost use Rattle.qc_codec.specs.Fields as field;
-ghost use Rattle.qc_codec.specs.Fields.{format_1};
+ghost use Rattle.qc_codec.specs.Fields.{current};
 ghost use Rattle.qc_config.specs.Tuple.{after};
 ghost use Rattle.qc_event.specs.Seen.{seen};
 ghost use Rattle.qc_moss.specs.declared.consulting.Verdict.TheVariants.{Free};
@@ -140,7 +140,7 @@ impl<N: Store, const C: u8> Replica<N, C> {
     pub(crate) fn held_fits(&self, held: &[Tuple])
         requires proper { IsProper (setting_of N.table N.base) }
         requires held { held.now ≡ held_row (slice_index_or N.base C []) self.now.pass.seen C }
-        ensures fits { All (field.tuple (format_1 (length N.base))).fits held.now }
+        ensures fits { All (field.tuple (current (length N.base))).fits held.now }
         ensures small { C < 16 }
     {
         held_to_fit(&self.pass, C, held);
@@ -297,7 +297,7 @@ impl<N: Store, const C: u8> Replica<N, C> {
         requires asked { HasAsked self.now.pass.seen ask.now }
         requires tuple { tuple.now ≡ after (seen N.base self.now.pass.seen ask.now.copy ask.now.rec)
             ask.now.op }
-        ensures fits { (body.grant (format_1 copies)).fits (grant_with ask.now tuple.now) }
+        ensures fits { (body.grant (current copies)).fits (grant_with ask.now tuple.now) }
     {
         known_to_fit(&self.pass, copies, ask, tuple);
     }

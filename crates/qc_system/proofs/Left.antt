@@ -4,7 +4,7 @@ use Rattle.std.specs.Prelude.{Option, None, Some, IfSome, All, option_to_list, l
 use Rattle.std.specs.Option.{option_map}
 use Rattle.std.proofs.lemmas.List.{map-append}
 use Rattle.qc_codec.specs.Bodies as body
-use Rattle.qc_codec.specs.Fields.{format_1}
+use Rattle.qc_codec.specs.Fields.{current}
 use Rattle.qc_disk.specs.declared.disk.Disk.{Ghosts}
 use Rattle.qc_event.specs.declared.event.Grant.{Grant}
 use Rattle.qc_event.specs.Base.{Setting}
@@ -103,7 +103,7 @@ module _ (setting : Setting) (copy : ℕ) (seen now : Past) (older : IsOlder see
   keeps_grants_later copies before left was = record {
     untold = was.untold;
     may = still was.untold was.may;
-    fit = subst (λ gs. All (body.grant (format_1 copies)).fits (gs ++ option_to_list was.untold)) (sym same_grants) was.fit;
+    fit = subst (λ gs. All (body.grant (current copies)).fits (gs ++ option_to_list was.untold)) (sym same_grants) was.fit;
     each = λ image is. let r = was.each image is in (r.0, subst (λ gs. OrMore gs was.untold r.0) (sym same_grants) r.1, r.2);
   }
 

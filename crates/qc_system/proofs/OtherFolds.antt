@@ -4,7 +4,7 @@ use Rattle.std.specs.Prelude.{◌↔◌, All}
 use Rattle.std.proofs.Math.Nat.{min-eq_left, min-eq_right, min-le_left, min-le_right}
 use Rattle.std.proofs.lemmas.Bool.{cases_lt}
 use Rattle.qc_codec.specs.Fields as field
-use Rattle.qc_codec.specs.Fields.{format_1}
+use Rattle.qc_codec.specs.Fields.{current}
 use Rattle.qc_config.specs.declared.tuple.Tuple.{Tuple}
 use Rattle.qc_disk.specs.Disk.{DiskView as Disk, LeavesOnly, Rose}
 use Rattle.qc_disk.specs.declared.disk.Disk.{Ghosts}
@@ -58,7 +58,7 @@ module _ {D : Type 0} {g : Ghosts D} (setting : Setting) (found : Findings) (pai
       ∙ ap (λ n. next_base (length setting.base) (found.number pair) n tuples) other.epoch
 
   pub folds_other : ((c : List ℕ) → (disk old).left_at (disk old).moment c ↔ (disk old).may_leave c)
-      → active_number old < 2 ^ 63 → All (field.tuple (format_1 (length setting.base))).fits tuples
+      → active_number old < 2 ^ 63 → All (field.tuple (current (length setting.base))).fits tuples
       → ((bodies : List (List ℕ)) → Keeps (other_in old) bodies → LeavesOnly g.view (disk_of (other_in old)) (disk_of (other_in new)) (IsFolding bodies (made_in old) (folded_base old tuples)))
       → OtherFolds setting found pair tuples (disk new)
   folds_other now next fit runs = record {
@@ -77,7 +77,7 @@ module _ {D : Type 0} {g : Ghosts D} (setting : Setting) (found : Findings) (pai
         }) ∣₁;
   }
 
-  pub folded_other : active_number old < 2 ^ 63 → All (field.tuple (format_1 (length setting.base))).fits tuples → IsUp (other_in new)
+  pub folded_other : active_number old < 2 ^ 63 → All (field.tuple (current (length setting.base))).fits tuples → IsUp (other_in new)
       → ((bodies : List (List ℕ)) → Keeps (other_in old) bodies → Keeps (other_in new) (folded_bodies old tuples))
       → IsFolded setting found pair tuples (disk new)
   folded_other next fit up keeps = record {
@@ -112,10 +112,10 @@ module _ {D : Type 0} {g : Ghosts D} (setting : Setting) (found : Findings) (pai
   module _ (since by past : Past) (is : tuples ≡ held_in setting found pair past) (later : IsOlder since by) (older : IsOlder by past) (ended : HasEnded by) (now : (c : List ℕ) → (disk old).left_at (disk old).moment c ↔ (disk old).may_leave c)
       (runs : (bodies : List (List ℕ)) → Keeps (other_in old) bodies → LeavesOnly g.view (disk_of (other_in old)) (disk_of (other_in new)) (IsFolding bodies (made_in old) (folded_base old tuples))) where
     -- it was folded by one who has seen that each top has its end
-    pub was_folded : active_number old < 2 ^ 63 → All (field.tuple (format_1 (length setting.base))).fits tuples → WasFolded setting found since pair (disk new) past
+    pub was_folded : active_number old < 2 ^ 63 → All (field.tuple (current (length setting.base))).fits tuples → WasFolded setting found since pair (disk new) past
     was_folded next fit = record { by = by; later = later; older = older; ended = ended; folds = subst (λ ts. OtherFolds setting found pair ts (disk new)) is (folds_other now next fit runs) }
 
-    pub left_so : (2 ^ 63 ≤ active_number old → other_in new ≡ other_in old) → (other_in new ≡ other_in old) ⊎ All (field.tuple (format_1 (length setting.base))).fits tuples → IsLeftBy setting found since pair (disk new) past
+    pub left_so : (2 ^ 63 ≤ active_number old → other_in new ≡ other_in old) → (other_in new ≡ other_in old) ⊎ All (field.tuple (current (length setting.base))).fits tuples → IsLeftBy setting found since pair (disk new) past
     left_so last (inl same) = inl (keeps_still now same)
     left_so last (inr fit) = elim (cases_lt (active_number old) (2 ^ 63)) [ inl next ↦ inr (was_folded next fit) | inr used ↦ inl (keeps_still now (last used)) ]
 

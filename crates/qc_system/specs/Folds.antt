@@ -1,7 +1,7 @@
 -- What becomes of the other disk of a pair, into which that may be folded once a run has ended.
 use Rattle.std.specs.Prelude.{◌≡◌, ◌<◌, ◌⊎◌, ◌^◌, ℕ, zero, suc, true, List, [], ◌∷◌, All, length}
 use Rattle.qc_codec.specs.Fields as field
-use Rattle.qc_codec.specs.Fields.{format_1}
+use Rattle.qc_codec.specs.Fields.{current}
 use Rattle.qc_config.specs.declared.tuple.Tuple.{Tuple}
 use Rattle.qc_disk.specs.Disk.{DiskView as Disk, Rose}
 use Rattle.qc_event.specs.Base.{Setting}
@@ -39,13 +39,13 @@ module _ (setting : Setting) (found : Findings) where
   -- These tuples were folded into it, as far as the fold came: there was a next number, they fit the form of a base, and where it tells its bytes it had at each moment since what was found there, or what a fold leaves.
   pub record OtherFolds (pair : ℕ) (tuples : List Tuple) (disk : Disk) : Type 0 where
     pub next : found.number pair < 2 ^ 63
-    pub fit : All (field.tuple (format_1 (length setting.base))).fits tuples
+    pub fit : All (field.tuple (current (length setting.base))).fits tuples
     pub folds : ∥ ((found.other pair).told ≡ true → FoldedFrom (found.other pair).first (found.other pair).before (found.made pair) (base_in pair tuples) disk) ∥₁
 
   -- The fold came to its end: where it tells its bytes, each image has how the disk was made and the base, and no more.
   pub record IsFolded (pair : ℕ) (tuples : List Tuple) (disk : Disk) : Type 0 where
     pub next : found.number pair < 2 ^ 63
-    pub fit : All (field.tuple (format_1 (length setting.base))).fits tuples
+    pub fit : All (field.tuple (current (length setting.base))).fits tuples
     pub has : (found.other pair).told ≡ true → (image : List ℕ) → disk.may_leave image → HasRecords (found.made pair ∷ base_in pair tuples ∷ []) image
 
   -- Nothing bars a pair from being folded to these tuples: the active disk tells its bytes, neither disk has failed since its mounting, there is a next number, and room for both bodies.

@@ -1,7 +1,7 @@
 -- What disks keep of a history.
 use Rattle.std.specs.Prelude.{ℕ, List, ◌++◌, All, map, Option, IfSome, option_to_list}
 use Rattle.qc_codec.specs.Bodies as body
-use Rattle.qc_codec.specs.Fields.{format_1}
+use Rattle.qc_codec.specs.Fields.{current}
 use Rattle.qc_event.specs.declared.event.Grant.{Grant}
 use Rattle.qc_event.specs.Base.{Setting}
 use Rattle.qc_event.specs.Grants.{MayGrant}
@@ -19,7 +19,7 @@ use Rattle.qc_site.specs.Back.{grant_body}
 pub record KeepsGrants (setting : Setting) (copies copy : ℕ) (before : List (List ℕ)) (left : List ℕ → Type 0) (past : Past) : Type 0 where
   pub untold : Option Grant
   pub may : IfSome untold (MayGrant setting past (copy_seat copy) copy)
-  pub fit : All (body.grant (format_1 copies)).fits (grants past copy ++ option_to_list untold)
+  pub fit : All (body.grant (current copies)).fits (grants past copy ++ option_to_list untold)
   pub each : (image : List ℕ) → left image → (given : List Grant) × OrMore (grants past copy) untold given × HasRecords (before ++ map (grant_body copies) given) image
 
 -- Each image of the ledger's disk has the records from before, then one for each top that the ledger committed, with the

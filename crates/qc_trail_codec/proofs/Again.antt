@@ -23,7 +23,7 @@ use Rattle.qc_event.specs.declared.event.Kind.TheVariants.{User, Read, Write, Re
 use Rattle.qc_event.specs.declared.event.Refusal.{Refusal}
 use Rattle.qc_event.specs.declared.event.Refusal.TheVariants.{Blocked, Dead}
 use Rattle.qc_codec.specs.Bodies.{granted}
-use Rattle.qc_codec.specs.Fields.{Layout}
+use Rattle.qc_codec.specs.Fields.{current_format, Layout}
 use Rattle.qc_codec.proofs.Fits.{config_votes, tuple_votes, tuple_legal, name_numbered, granted_votes}
 use Rattle.qc_trail_codec.specs.Events.{op, kind, answer, cause, how, ask, refusal, event, entry}
 use Rattle.qc_trail_codec.specs.Reasons.{inability}
@@ -98,7 +98,7 @@ module _ (layout : Layout) where
   unfolding entry
   entry_again e fits = event_again e.event fits.0.1
 
-base_again : (b : List (List Tuple)) → (base 1).fits b → IsProperBase (records_of b) b
+base_again : (b : List (List Tuple)) → (base current_format).fits b → IsProperBase (records_of b) b
 unfolding base
 base_again b fits =
     let copies = and_parts (nat_le 1 (length b)) _ fits.0.0.1 in
@@ -119,6 +119,6 @@ base_again b fits =
       };
     }
 
-pub trail_again : (t : SavedTrail) → (trail 1).fits t → IsProperBase (records_of t.base) t.base × All (CanBeSaved (length t.base)) t.entries
+pub trail_again : (t : SavedTrail) → (trail current_format).fits t → IsProperBase (records_of t.base) t.base × All (CanBeSaved (length t.base)) t.entries
 unfolding trail
 trail_again t fits = (base_again t.base fits.0.0, λ k d lt. entry_again (layout_of 1 (length t.base)) _ (fits.0.1.0.1.1 k d lt))

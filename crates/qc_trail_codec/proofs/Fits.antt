@@ -16,7 +16,7 @@ use Rattle.qc_event.specs.declared.event.Phase.{Phase}
 use Rattle.qc_event.specs.declared.event.Phase.TheVariants.{Collect, Values, Configs}
 use Rattle.qc_event.specs.declared.event.Lack.{Lack}
 use Rattle.qc_event.specs.History.{Name}
-use Rattle.qc_codec.specs.Fields.{Layout, format_1, half, word, long, name, datum, config, IsNumbered}
+use Rattle.qc_codec.specs.Fields.{config, current, current_format, datum, half, long, name, word, Layout, IsNumbered}
 use Rattle.qc_trail_codec.specs.Events.{op, kind, answer, event, entry}
 use Rattle.qc_trail_codec.specs.Reasons.{why, is_inability, inability, reason, copies, number_of, phase, lack}
 use Rattle.qc_trail_codec.specs.Trail.{base, trail}
@@ -99,6 +99,6 @@ pub entry_fits : (layout : Layout) (e : Entry) → e.seat < 2 ^ 32 → (event la
 unfolding entry word
 entry_fits layout e seat fits = ((seat, fits), tt)
 
-pub trail_fits : (b : List (List Tuple)) (entries : List Entry) → (base 1).fits b → length entries < 2 ^ 64 → All (entry (format_1 (length b))).fits entries → (trail 1).fits (record { base = b; entries = entries })
+pub trail_fits : (b : List (List Tuple)) (entries : List Entry) → (base current_format).fits b → length entries < 2 ^ 64 → All (entry (current (length b))).fits entries → (trail current_format).fits (record { base = b; entries = entries })
 unfolding trail long
 trail_fits b entries fits few each = ((fits, ((few, (refl, each)), tt)), tt)

@@ -2,7 +2,7 @@
 ghost use Rattle.std.specs.Prelude.{◌≡◌, ◌<◌, ◌≤◌, Some, length, IfOk, IfErr, OnOk};
 ghost use Rattle.std.specs.List.{All};
 ghost use Rattle.qc_codec.specs.Fields as field;
-ghost use Rattle.qc_codec.specs.Fields.{format_1};
+ghost use Rattle.qc_codec.specs.Fields.{current, current_format};
 ghost use Rattle.qc_codec.specs.Form.{times, times_taken};
 ghost use Rattle.qc_codec.specs.Gives.{Refuses, Reads, ReadsEach, Puts, PutsEach};
 ghost use Rattle.qc_event.specs.Base.{IsProperBase};
@@ -29,10 +29,10 @@ fn row(
     records: u8,
 ) -> Result<Vec<Tuple>, CodecNo>
     requires { copies ≤ 16 }
-    ensures some { IfOk result (λ row. times_taken records (field.tuple (format_1 copies))
+    ensures some { IfOk result (λ row. times_taken records (field.tuple (current copies))
         cursor.old.rest.now ≡ Some (row.items, cursor.new.rest.now)) }
     ensures none { IfErr result (λ fault. Refuses fault
-        (times_taken records (field.tuple (format_1 copies)) cursor.old.rest.now)) }
+        (times_taken records (field.tuple (current copies)) cursor.old.rest.now)) }
 {
     let mut row = Vec::new(alloc);
     for _ in 0..records {
@@ -45,7 +45,7 @@ fn row(
 // The tuples of so many copies and records.
 fn rows(cursor: &mut Cursor<'_>, alloc: Global, copies: u8, records: u8) -> Result<Base, CodecNo>
     requires { copies ≤ 16 }
-    ensures taken { ReadsEach (times records (field.tuple (format_1 copies)))
+    ensures taken { ReadsEach (times records (field.tuple (current copies)))
         copies result cursor.old cursor.new }
     ensures many { IfOk result (λ base. length base ≡ copies) }
 {
@@ -60,7 +60,7 @@ fn rows(cursor: &mut Cursor<'_>, alloc: Global, copies: u8, records: u8) -> Resu
 /// The base at a cursor.
 #[tactic(auto, unfolding(crate::specs::Trail::base))]
 pub(crate) fn base(cursor: &mut Cursor<'_>, alloc: Global) -> Result<Base, CodecNo>
-    ensures taken { Reads (saved.base 1) result cursor.old cursor.new }
+    ensures taken { Reads (saved.base current_format) result cursor.old cursor.new }
     ensures most { IfOk result (λ base. length base ≤ 16) }
 {
     let copies = cursor.byte()?;
@@ -78,9 +78,9 @@ fn put_row(out: &mut Vec<u8>, copies: u8, row: &[Tuple]) -> Result<(), AllocErro
     requires some { 0 < copies }
     requires most { copies ≤ 16 }
     requires for_copies { All (IsTupleFor copies) row.now }
-    ensures written { PutsEach (field.tuple (format_1 copies)) row.now result
+    ensures written { PutsEach (field.tuple (current copies)) row.now result
         out.old.items out.new.items }
-    ensures fits { OnOk result (All (field.tuple (format_1 copies)).fits row.now) }
+    ensures fits { OnOk result (All (field.tuple (current copies)).fits row.now) }
 {
     for tuple in row {
         put_tuple(out, copies, FORMAT, tuple)?;
@@ -92,8 +92,8 @@ fn put_row(out: &mut Vec<u8>, copies: u8, row: &[Tuple]) -> Result<(), AllocErro
 #[tactic(auto, unfolding(crate::specs::Trail::base))]
 pub(crate) fn put_base(out: &mut Vec<u8>, base: &Base) -> Result<(), AllocError>
     requires { IsProperBase (records_of base.now) base.now }
-    ensures written { Puts (saved.base 1) base.now result out.old.items out.new.items }
-    ensures fits { OnOk result ((saved.base 1).fits base.now) }
+    ensures written { Puts (saved.base current_format) base.now result out.old.items out.new.items }
+    ensures fits { OnOk result ((saved.base current_format).fits base.now) }
 {
     let copies = base.copies() as u8;
     put_byte(out, copies)?;

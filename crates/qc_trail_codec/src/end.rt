@@ -1,6 +1,6 @@
 //! How transactions end.
 ghost use Rattle.std.specs.Prelude.{◌<◌, ◌≤◌, OnOk};
-ghost use Rattle.qc_codec.specs.Fields.{format_1};
+ghost use Rattle.qc_codec.specs.Fields.{current};
 ghost use Rattle.qc_codec.specs.Gives.{Reads, Puts};
 ghost use Rattle.qc_trail_codec.specs.Events as events;
 ghost use Rattle.qc_trail_codec.specs.Saving.{CanEndBeSaved, IsAnswerFor, IsNumberedCause};
@@ -14,7 +14,7 @@ use std::alloc::AllocError;
 #[tactic(auto, unfolding(crate::specs::Events::answer))]
 fn answer(cursor: &mut Cursor<'_>, copies: u8) -> Result<Answer, CodecNo>
     requires { copies ≤ 16 }
-    ensures { Reads (events.answer (format_1 copies)) result cursor.old cursor.new }
+    ensures { Reads (events.answer (current copies)) result cursor.old cursor.new }
 {
     match cursor.byte()? {
         0 => Ok(Answer::Nothing),
@@ -30,9 +30,9 @@ fn put_answer(out: &mut Vec<u8>, copies: u8, answer: &Answer) -> Result<(), Allo
     requires some { 0 < copies }
     requires most { copies ≤ 16 }
     requires for_copies { IsAnswerFor copies answer.now }
-    ensures written { Puts (events.answer (format_1 copies)) answer.now result
+    ensures written { Puts (events.answer (current copies)) answer.now result
         out.old.items out.new.items }
-    ensures fits { OnOk result ((events.answer (format_1 copies)).fits answer.now) }
+    ensures fits { OnOk result ((events.answer (current copies)).fits answer.now) }
 {
     match answer {
         Answer::Nothing => put_byte(out, 0),
@@ -111,7 +111,7 @@ fn put_cause(out: &mut Vec<u8>, cause: &Cause) -> Result<(), AllocError>
 #[tactic(auto, unfolding(crate::specs::Events::how))]
 pub(crate) fn how(cursor: &mut Cursor<'_>, copies: u8) -> Result<How, CodecNo>
     requires { copies ≤ 16 }
-    ensures { Reads (events.how (format_1 copies)) result cursor.old cursor.new }
+    ensures { Reads (events.how (current copies)) result cursor.old cursor.new }
 {
     match cursor.byte()? {
         0 => Ok(How::Commit(answer(cursor, copies)?)),
@@ -126,9 +126,9 @@ pub(crate) fn put_how(out: &mut Vec<u8>, copies: u8, how: &How) -> Result<(), Al
     requires some { 0 < copies }
     requires most { copies ≤ 16 }
     requires can { CanEndBeSaved copies how.now }
-    ensures written { Puts (events.how (format_1 copies)) how.now result
+    ensures written { Puts (events.how (current copies)) how.now result
         out.old.items out.new.items }
-    ensures fits { OnOk result ((events.how (format_1 copies)).fits how.now) }
+    ensures fits { OnOk result ((events.how (current copies)).fits how.now) }
 {
     match how {
         How::Commit(answer) => {

@@ -1,6 +1,6 @@
 //! Entries.
 ghost use Rattle.std.specs.Prelude.{◌<◌, ◌≤◌, OnOk};
-ghost use Rattle.qc_codec.specs.Fields.{format_1, IsNumbered};
+ghost use Rattle.qc_codec.specs.Fields.{current, IsNumbered};
 ghost use Rattle.qc_codec.specs.Gives.{Reads, Puts};
 ghost use Rattle.qc_event.specs.declared.event.Event.TheVariants as event;
 ghost use Rattle.qc_trail_codec.specs.Events as events;
@@ -19,7 +19,7 @@ const SESSIONS: u8 = 16;
 #[tactic(auto, unfolding(crate::specs::Events::ask))]
 fn ask(cursor: &mut Cursor<'_>, copies: u8) -> Result<Ask, CodecNo>
     requires { copies ≤ 16 }
-    ensures { Reads (events.ask (format_1 copies)) result cursor.old cursor.new }
+    ensures { Reads (events.ask (current copies)) result cursor.old cursor.new }
 {
     Ok(Ask {
         access: cursor.name(1)?,
@@ -34,9 +34,9 @@ fn put_ask(out: &mut Vec<u8>, copies: u8, ask: &Ask) -> Result<(), AllocError>
     requires some { 0 < copies }
     requires most { copies ≤ 16 }
     requires can { CanAskBeSaved copies ask.now }
-    ensures written { Puts (events.ask (format_1 copies)) ask.now result
+    ensures written { Puts (events.ask (current copies)) ask.now result
         out.old.items out.new.items }
-    ensures fits { OnOk result ((events.ask (format_1 copies)).fits ask.now) }
+    ensures fits { OnOk result ((events.ask (current copies)).fits ask.now) }
 {
     put_name(out, &ask.access)?;
     put_byte(out, ask.copy)?;
@@ -87,7 +87,7 @@ fn session(cursor: &mut Cursor<'_>) -> Result<u8, CodecNo>
 #[tactic(auto, unfolding(crate::specs::Events::event))]
 fn event(cursor: &mut Cursor<'_>, copies: u8) -> Result<Event, CodecNo>
     requires { copies ≤ 16 }
-    ensures { Reads (events.event (format_1 copies)) result cursor.old cursor.new }
+    ensures { Reads (events.event (current copies)) result cursor.old cursor.new }
 {
     match cursor.byte()? {
         1 => Ok(Event::Start {
@@ -131,10 +131,10 @@ fn event(cursor: &mut Cursor<'_>, copies: u8) -> Result<Event, CodecNo>
 fn put_gone(out: &mut Vec<u8>, copies: u8, access: &Name, why: Why) -> Result<(), AllocError>
     requires most { copies ≤ 16 }
     requires numbered { IsNumbered access.now }
-    ensures written { Puts (events.event (format_1 copies)) (event.Gone access.now why) result
+    ensures written { Puts (events.event (current copies)) (event.Gone access.now why) result
         out.old.items out.new.items }
     ensures fits { OnOk result
-        ((events.event (format_1 copies)).fits (event.Gone access.now why)) }
+        ((events.event (current copies)).fits (event.Gone access.now why)) }
 {
     put_byte(out, 3)?;
     put_name(out, access)?;
@@ -146,10 +146,10 @@ fn put_grant(out: &mut Vec<u8>, copies: u8, copy: u8, grant: &Grant) -> Result<(
     requires some { 0 < copies }
     requires most { copies ≤ 16 }
     requires can { CanGrantBeSaved copies grant.now }
-    ensures written { Puts (events.event (format_1 copies)) (event.Granted copy grant.now) result
+    ensures written { Puts (events.event (current copies)) (event.Granted copy grant.now) result
         out.old.items out.new.items }
     ensures fits { OnOk result
-        ((events.event (format_1 copies)).fits (event.Granted copy grant.now)) }
+        ((events.event (current copies)).fits (event.Granted copy grant.now)) }
 {
     put_byte(out, 4)?;
     put_byte(out, copy)?;
@@ -167,9 +167,9 @@ fn put_refused(
     requires most { copies ≤ 16 }
     requires access { IsNumbered access.now }
     requires refusal { IsNumberedRefusal refusal.now }
-    ensures written { Puts (events.event (format_1 copies))
+    ensures written { Puts (events.event (current copies))
         (event.Refused access.now copy refusal.now) result out.old.items out.new.items }
-    ensures fits { OnOk result ((events.event (format_1 copies)).fits
+    ensures fits { OnOk result ((events.event (current copies)).fits
         (event.Refused access.now copy refusal.now)) }
 {
     put_byte(out, 5)?;
@@ -183,9 +183,9 @@ fn put_event(out: &mut Vec<u8>, copies: u8, event: &Event) -> Result<(), AllocEr
     requires some { 0 < copies }
     requires most { copies ≤ 16 }
     requires can { CanEventBeSaved copies event.now }
-    ensures written { Puts (events.event (format_1 copies)) event.now result
+    ensures written { Puts (events.event (current copies)) event.now result
         out.old.items out.new.items }
-    ensures fits { OnOk result ((events.event (format_1 copies)).fits event.now) }
+    ensures fits { OnOk result ((events.event (current copies)).fits event.now) }
 {
     match event {
         Event::Start { name, kind } => {
@@ -230,7 +230,7 @@ fn put_event(out: &mut Vec<u8>, copies: u8, event: &Event) -> Result<(), AllocEr
 #[tactic(auto, unfolding(crate::specs::Events::entry))]
 pub(crate) fn entry(cursor: &mut Cursor<'_>, copies: u8) -> Result<Entry, CodecNo>
     requires { copies ≤ 16 }
-    ensures { Reads (events.entry (format_1 copies)) result cursor.old cursor.new }
+    ensures { Reads (events.entry (current copies)) result cursor.old cursor.new }
 {
     let seat = cursor.word()?;
     let event = event(cursor, copies)?;
@@ -243,9 +243,9 @@ pub(crate) fn put_entry(out: &mut Vec<u8>, copies: u8, entry: &Entry) -> Result<
     requires some { 0 < copies }
     requires most { copies ≤ 16 }
     requires can { CanBeSaved copies entry.now }
-    ensures written { Puts (events.entry (format_1 copies)) entry.now result
+    ensures written { Puts (events.entry (current copies)) entry.now result
         out.old.items out.new.items }
-    ensures fits { OnOk result ((events.entry (format_1 copies)).fits entry.now) }
+    ensures fits { OnOk result ((events.entry (current copies)).fits entry.now) }
 {
     put_word(out, entry.seat)?;
     put_event(out, copies, &entry.event)

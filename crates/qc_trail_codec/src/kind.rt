@@ -1,6 +1,6 @@
 //! Operations, and what transactions are for.
 ghost use Rattle.std.specs.Prelude.{◌<◌, ◌≤◌, OnOk};
-ghost use Rattle.qc_codec.specs.Fields.{format_1};
+ghost use Rattle.qc_codec.specs.Fields.{current};
 ghost use Rattle.qc_codec.specs.Form.{byte};
 ghost use Rattle.qc_codec.specs.Gives.{Reads, Puts};
 ghost use Rattle.qc_trail_codec.specs.Events as events;
@@ -23,7 +23,7 @@ pub(crate) fn put_byte(out: &mut Vec<u8>, number: u8) -> Result<(), AllocError>
 #[tactic(auto, unfolding(crate::specs::Events::op))]
 pub(crate) fn op(cursor: &mut Cursor<'_>, copies: u8) -> Result<Op, CodecNo>
     requires { copies ≤ 16 }
-    ensures { Reads (events.op (format_1 copies)) result cursor.old cursor.new }
+    ensures { Reads (events.op (current copies)) result cursor.old cursor.new }
 {
     match cursor.byte()? {
         0 => Ok(Op::Get),
@@ -45,9 +45,9 @@ pub(crate) fn put_op(out: &mut Vec<u8>, copies: u8, op: &Op) -> Result<(), Alloc
     requires some { 0 < copies }
     requires most { copies ≤ 16 }
     requires for_copies { IsOpFor copies op.now }
-    ensures written { Puts (events.op (format_1 copies)) op.now result
+    ensures written { Puts (events.op (current copies)) op.now result
         out.old.items out.new.items }
-    ensures fits { OnOk result ((events.op (format_1 copies)).fits op.now) }
+    ensures fits { OnOk result ((events.op (current copies)).fits op.now) }
 {
     match op {
         Op::Get => put_byte(out, 0),
@@ -68,7 +68,7 @@ pub(crate) fn put_op(out: &mut Vec<u8>, copies: u8, op: &Op) -> Result<(), Alloc
 #[tactic(auto, unfolding(crate::specs::Events::kind))]
 pub(crate) fn kind(cursor: &mut Cursor<'_>, copies: u8) -> Result<Kind, CodecNo>
     requires { copies ≤ 16 }
-    ensures { Reads (events.kind (format_1 copies)) result cursor.old cursor.new }
+    ensures { Reads (events.kind (current copies)) result cursor.old cursor.new }
 {
     match cursor.byte()? {
         0 => Ok(Kind::User {
@@ -97,9 +97,9 @@ pub(crate) fn put_kind(out: &mut Vec<u8>, copies: u8, kind: &Kind) -> Result<(),
     requires some { 0 < copies }
     requires most { copies ≤ 16 }
     requires for_copies { IsKindFor copies kind.now }
-    ensures written { Puts (events.kind (format_1 copies)) kind.now result
+    ensures written { Puts (events.kind (current copies)) kind.now result
         out.old.items out.new.items }
-    ensures fits { OnOk result ((events.kind (format_1 copies)).fits kind.now) }
+    ensures fits { OnOk result ((events.kind (current copies)).fits kind.now) }
 {
     match kind {
         Kind::User { session, body } => {

@@ -1,7 +1,7 @@
 //! Saved trails.
 ghost use Rattle.std.specs.Prelude.{◌≡◌, ◌<◌, ◌≤◌, [], ◌∷◌, ◌++◌, length, IfOk, IsErrOf, OnOk};
 ghost use Rattle.std.specs.List.{All};
-ghost use Rattle.qc_codec.specs.Fields.{format_1};
+ghost use Rattle.qc_codec.specs.Fields.{current, current_format};
 ghost use Rattle.qc_codec.specs.Gives.{Reads, ReadsEach, ReadsAll, Spells, SpellsNone, PutsEach};
 ghost use Rattle.qc_codec.specs.declared.fault.CodecNo.TheVariants.{Bad};
 ghost use Rattle.qc_event.specs.Base.{IsProperBase};
@@ -26,7 +26,7 @@ fn entries(
     count: u64,
 ) -> Result<Entries, CodecNo>
     requires { copies ≤ 16 }
-    ensures { ReadsEach (events.entry (format_1 copies)) count result cursor.old cursor.new }
+    ensures { ReadsEach (events.entry (current copies)) count result cursor.old cursor.new }
 {
     let mut entries = Vec::new(alloc);
     for _ in 0..count {
@@ -41,7 +41,7 @@ fn entries(
 
 #[tactic(auto, unfolding(crate::specs::Trail::trail))]
 fn trail(cursor: &mut Cursor<'_>, alloc: Global) -> Result<SavedTrail, CodecNo>
-    ensures { Reads (saved.trail 1) result cursor.old cursor.new }
+    ensures { Reads (saved.trail current_format) result cursor.old cursor.new }
 {
     let base = base(cursor, alloc)?;
     let count = cursor.long()?;
@@ -50,7 +50,7 @@ fn trail(cursor: &mut Cursor<'_>, alloc: Global) -> Result<SavedTrail, CodecNo>
 }
 
 fn all(alloc: Global, bytes: &[u8]) -> Result<SavedTrail, CodecNo>
-    ensures { ReadsAll (saved.trail 1) result bytes.now }
+    ensures { ReadsAll (saved.trail current_format) result bytes.now }
 {
     let mut cursor = Cursor { rest: bytes };
     let trail = trail(&mut cursor, alloc)?;
@@ -62,9 +62,9 @@ fn all(alloc: Global, bytes: &[u8]) -> Result<SavedTrail, CodecNo>
 
 /// The saved trail that the bytes are.
 pub fn read_trail(alloc: Global, bytes: &[u8]) -> Result<SavedTrail, CodecNo>
-    ensures exact { ReadsAll (saved.trail 1) result bytes.now }
-    ensures found { IfOk result (Spells (saved.trail 1) bytes.now) }
-    ensures bad { IsErrOf result Bad → SpellsNone (saved.trail 1) bytes.now }
+    ensures exact { ReadsAll (saved.trail current_format) result bytes.now }
+    ensures found { IfOk result (Spells (saved.trail current_format) bytes.now) }
+    ensures bad { IsErrOf result Bad → SpellsNone (saved.trail current_format) bytes.now }
 
     // What was read can be saved again.
     ensures base { IfOk result (λ t. IsProperBase (records_of t.base) t.base) }
@@ -77,9 +77,9 @@ fn put_entries(out: &mut Vec<u8>, copies: u8, entries: &Trail) -> Result<(), All
     requires some { 0 < copies }
     requires most { copies ≤ 16 }
     requires can { All (CanBeSaved copies) entries.now }
-    ensures written { PutsEach (events.entry (format_1 copies)) entries.now result
+    ensures written { PutsEach (events.entry (current copies)) entries.now result
         out.old.items out.new.items }
-    ensures fits { OnOk result (All (events.entry (format_1 copies)).fits entries.now) }
+    ensures fits { OnOk result (All (events.entry (current copies)).fits entries.now) }
 {
     for at in 0..entries.len() {
         let entry = entries.at(at);
@@ -93,7 +93,7 @@ fn put_entries(out: &mut Vec<u8>, copies: u8, entries: &Trail) -> Result<(), All
 pub fn write_trail(alloc: Global, base: &Base, entries: &Trail) -> Result<Vec<u8>, AllocError>
     requires base { IsProperBase (records_of base.now) base.now }
     requires entries { All (CanBeSaved (length base.now)) entries.now }
-    ensures { IfOk result (λ bytes. Spells (saved.trail 1) bytes.items
+    ensures { IfOk result (λ bytes. Spells (saved.trail current_format) bytes.items
         (record { base = base.now; entries = entries.now })) }
 {
     let mut out = Vec::new(alloc);

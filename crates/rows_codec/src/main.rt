@@ -3,6 +3,7 @@
 //! begin with `#`, are printed as they are.
 #![tactic(auto)]
 
+mod bases;
 mod ends;
 mod events;
 mod grants;
@@ -45,6 +46,7 @@ fn answer(rt: &HostRuntime, alloc: Global, line: &str) -> Answer {
     let mut words = Words::new(line);
     match words.word()? {
         "made" => mades::made(rt, alloc, words),
+        "base" => bases::base(rt, alloc, words),
         "grant" => grants::grant(rt, alloc, words),
         "ledger" => ledgers::ledger(rt, alloc, words),
         "trail" => trails::trail(rt, alloc, words),

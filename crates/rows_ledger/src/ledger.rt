@@ -1,6 +1,8 @@
 //! Steps on a ledger.
 ghost use Rattle.std.specs.Prelude.{IfOk, IfSome};
 ghost use Rattle.qc_codec.specs.Bodies as body;
+ghost use Rattle.qc_codec.specs.Fields.{current_format};
+ghost use Rattle.qc_codec.specs.declared.record.Made.{Made};
 
 use crate::answer::{active, done, hand_text, mounted as mounted_text, no_such, not_now, refused};
 use crate::folds::{Folds, Ready};
@@ -19,7 +21,7 @@ const X1: &str = "010100010101780000000000000001010100010001";
 
 // How disk 0 was made, by the table that a step says.
 fn made(alloc: Global, step: &Step<'_>) -> Result<Option<Made>, AllocError>
-    ensures { IfOk result (λ made. IfSome made (λ m. (body.table 1).fits m.table)) }
+    ensures { IfOk result (λ made. IfSome made (λ m. (body.table current_format).fits m.table)) }
 {
     made_of(alloc, if step.word(1) == "x1" { X1 } else { X0 })
 }

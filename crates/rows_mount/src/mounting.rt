@@ -1,5 +1,7 @@
 //! Mounting a store.
 ghost use Rattle.qc_codec.specs.Bodies as body;
+ghost use Rattle.qc_codec.specs.Fields.{current_format};
+ghost use Rattle.qc_codec.specs.declared.record.Made.{Made};
 
 use crate::answer::{failed, store};
 use qc_codec::Made;
@@ -34,7 +36,7 @@ fn mount<D: Disk + Send, H: Shop<D = D>>(
     made: &Made,
     limit: u64,
 ) -> Result<Parts<D>, MountNo<D>>
-    requires { (body.table 1).fits made.now.table }
+    requires { (body.table current_format).fits made.now.table }
 {
     let disks = obtain_all(alloc, shop, place, made.table.copies)?;
     mount_disks(alloc, disks, &made.table, limit)
@@ -48,7 +50,7 @@ pub(crate) fn mounted<D: Disk + Send + Drop, H: Shop<D = D>>(
     made: &Made,
     limit: u64,
 ) -> Result<(String, Vec<D>), AllocError>
-    requires { (body.table 1).fits made.now.table }
+    requires { (body.table current_format).fits made.now.table }
 {
     match mount(alloc, shop, place, made, limit) {
         Ok(parts) => {

@@ -1,7 +1,7 @@
 //! Opening a pair.
 ghost use Rattle.std.specs.Prelude.{◌≡◌, ◌≤◌, All};
 ghost use Rattle.qc_codec.specs.Fields as field;
-ghost use Rattle.qc_codec.specs.Fields.{format_1};
+ghost use Rattle.qc_codec.specs.Fields.{current};
 ghost use Rattle.qc_journal.specs.Journal.{IsUp};
 ghost use Rattle.qc_pair.specs.Fold.{copies_in, other_in};
 ghost use Rattle.qc_pair.specs.Pair.{other_of};
@@ -35,7 +35,7 @@ fn put_fold<D: Disk + Drop>(
     tuples: Vec<Tuple>,
 ) -> Result<(), AllocError>
     requires up { IsUp (other_in fold.old) }
-    requires fit { All (field.tuple (format_1 (copies_in fold.old))).fits tuples.items }
+    requires fit { All (field.tuple (current (copies_in fold.old))).fits tuples.items }
 {
     match fold.fold(alloc, tuples) {
         Ok(()) => text.push_str("; folded"),
@@ -57,7 +57,7 @@ fn told<D: Disk + Drop>(
 ) -> Result<(String, [D; 2]), AllocError>
     requires few { who ≤ 16 }
     requires up { IsUp (other_of pair) }
-    requires fit { All (field.tuple (format_1 wish.copies)).fits wish.tuples.items }
+    requires fit { All (field.tuple (current wish.copies)).fits wish.tuples.items }
 {
     let active = pair.active_disk(who);
     let (journal, mut fold) = pair.into_fold(wish.made, wish.epoch, wish.copies);
@@ -79,7 +79,7 @@ fn tried<D: Disk + Drop>(
     wish: Wish,
 ) -> Result<(String, [D; 2]), AllocError>
     requires few { who ≤ 16 }
-    requires fit { All (field.tuple (format_1 wish.copies)).fits wish.tuples.items }
+    requires fit { All (field.tuple (current wish.copies)).fits wish.tuples.items }
 {
     match open(alloc, disk, spare, who, kind_of(step.word(1)), LIMIT) {
         Ok((pair, bodies)) => told(alloc, pair, who, &bodies, step, wish),
@@ -97,7 +97,7 @@ pub(crate) fn pair_step<D: Disk + Drop>(
     wish: Wish,
 ) -> Result<(String, [D; 2]), AllocError>
     requires few { who ≤ 16 }
-    requires fit { All (field.tuple (format_1 wish.copies)).fits wish.tuples.items }
+    requires fit { All (field.tuple (current wish.copies)).fits wish.tuples.items }
 {
     let (mut text, mut disks) = tried(alloc, disk, spare, who, step, wish)?;
     put_lengths(alloc, &mut text, &mut disks)?;

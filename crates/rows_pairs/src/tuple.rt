@@ -1,7 +1,7 @@
 //! Tuples as words.
 ghost use Rattle.std.specs.Prelude.{ℕ, ◌≤◌, ◌<◌, ◌^◌, length, IfOk, IfSome, IsTrue, All};
 ghost use Rattle.qc_codec.specs.Fields as field;
-ghost use Rattle.qc_codec.specs.Fields.{format_1};
+ghost use Rattle.qc_codec.specs.Fields.{current};
 ghost use Rattle.qc_config.specs.Config.{votes_of};
 
 use qc_config::{Config, Tuple, Val};
@@ -54,7 +54,7 @@ fn config_in_range(config: &Config)
 
 // Whether a tuple may stand in a base of a store of so many copies.
 fn may_stand(tuple: &Tuple, copies: u8) -> bool
-    ensures { IsTrue result → (field.tuple (format_1 copies)).fits tuple.now }
+    ensures { IsTrue result → (field.tuple (current copies)).fits tuple.now }
 {
     if copies == 0 || tuple.config.count() != usize::from(copies) {
         return false;
@@ -72,7 +72,7 @@ pub(crate) fn tuples(
     words: &[&str],
 ) -> Result<Option<Vec<Tuple>>, AllocError>
     ensures { IfOk result (λ tuples. IfSome tuples (λ t.
-        All (field.tuple (format_1 copies)).fits t.items)) }
+        All (field.tuple (current copies)).fits t.items)) }
 {
     let mut tuples = Vec::new(alloc);
     for word in words {

@@ -1,7 +1,7 @@
 //! What a step has a fold write.
 ghost use Rattle.std.specs.Prelude.{◌<◌, ◌≤◌, All, IfOk, IfSome};
 ghost use Rattle.qc_codec.specs.Fields as field;
-ghost use Rattle.qc_codec.specs.Fields.{format_1};
+ghost use Rattle.qc_codec.specs.Fields.{current};
 
 use crate::tuple::tuples;
 use qc_config::Tuple;
@@ -24,7 +24,7 @@ impl Wish {
     /// That of a step; none where its words are none. A step that does not fold wishes nothing.
     pub(crate) fn of(alloc: Global, step: &Step<'_>) -> Result<Option<Self>, AllocError>
         ensures { IfOk result (λ wish. IfSome wish (λ w.
-            All (field.tuple (format_1 w.copies)).fits w.tuples.items)) }
+            All (field.tuple (current w.copies)).fits w.tuples.items)) }
     {
         if step.name != "fold" {
             return Ok(Some(Wish {

@@ -1,6 +1,8 @@
 //! The one copy of the store, mounted; and with which tuples it may start.
 ghost use Rattle.std.specs.Prelude.{◌↔◌, ◌≡◌, [], ◌∷◌, IfOk, IfSome, IsTrue};
 ghost use Rattle.qc_codec.specs.Bodies as body;
+ghost use Rattle.qc_codec.specs.Fields.{current_format};
+ghost use Rattle.qc_codec.specs.declared.record.Made.{Made};
 ghost use Rattle.qc_site.specs.Mounted.{copies_of, copy_of};
 ghost use Rattle.rows_serve.specs.TwoRecords as words;
 
@@ -36,7 +38,8 @@ pub(crate) fn past_of(alloc: Global, epoch: u32, logged: &[Logged]) -> Result<Pa
 
 // How the copy's disk was made, where it is of one copy.
 fn one_copy(alloc: Global) -> Result<Option<Made>, AllocError>
-    ensures proper { IfOk result (λ made. IfSome made (λ m. (body.table 1).fits m.table)) }
+    ensures proper { IfOk result (λ made. IfSome made
+        (λ m. (body.table current_format).fits m.table)) }
     ensures one { IfOk result (λ made. IfSome made (λ m. m.table.copies ≡ 1)) }
 {
     match made_of(alloc, MADE)? {
@@ -54,7 +57,7 @@ fn both(
     past: &Past,
     limit: u64,
 ) -> Result<Result<(Mounted<HomeDisk>, Folds), (Disks, String)>, AllocError>
-    requires proper { (body.table 1).fits table.now }
+    requires proper { (body.table current_format).fits table.now }
     requires one { table.now.copies ≡ 1 }
     ensures { IfOk result (λ r. IfOk r (λ m. (copy_of m.0 ≡ 0) × (copies_of m.0 ≡ 1))) }
 {
@@ -79,7 +82,7 @@ fn alone(
     past: &Past,
     limit: u64,
 ) -> Result<Result<(Mounted<HomeDisk>, Folds), (Disks, String)>, AllocError>
-    requires proper { (body.table 1).fits table.now }
+    requires proper { (body.table current_format).fits table.now }
     requires one { table.now.copies ≡ 1 }
     ensures { IfOk result (λ r. IfOk r (λ m. (copy_of m.0 ≡ 0) × (copies_of m.0 ≡ 1))) }
 {

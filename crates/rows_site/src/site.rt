@@ -1,5 +1,7 @@
 //! Mounting a copy.
 ghost use Rattle.qc_codec.specs.Bodies as body;
+ghost use Rattle.qc_codec.specs.Fields.{current_format};
+ghost use Rattle.qc_codec.specs.declared.record.Made.{Made};
 
 use crate::answer::refused;
 use crate::state::State;
@@ -50,7 +52,7 @@ fn mounted_by(
     past: &Past,
     limit: u64,
 ) -> Result<(State, String), AllocError>
-    requires { (body.table 1).fits made.now.table }
+    requires { (body.table current_format).fits made.now.table }
 {
     if made.who == 0 || made.who > made.table.copies {
         return State::Disk(disk).no_such(alloc);

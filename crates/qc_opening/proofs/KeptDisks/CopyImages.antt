@@ -10,10 +10,10 @@ use Rattle.qc_event.specs.Base.{Setting}
 use Rattle.qc_event.specs.Grants.{MayGrant}
 use Rattle.qc_event.specs.History.{Asked, Past, asked, grants}
 use Rattle.qc_event.specs.Seats.{copy_seat}
-use Rattle.qc_codec.specs.Base.{copy_base}
+use Rattle.qc_codec.specs.Base.{current_copy_base}
 use Rattle.qc_codec.specs.Bodies as body
 use Rattle.qc_codec.specs.Copy.{grant_form}
-use Rattle.qc_codec.specs.Fields.{format_1}
+use Rattle.qc_codec.specs.Fields.{current}
 use Rattle.qc_codec.specs.Ledger.{made_for}
 use Rattle.qc_journal.specs.Image.{HasRecords}
 use Rattle.qc_refine.specs.Images.{IsCopyBodies, IsCopyImage}
@@ -61,12 +61,12 @@ module _ (setting : Setting) (table : Table) (copies copy disk : ℕ) (before : 
     pub is_image : IsCopyImage table begin (old ++ (grants past copy ++ untold)) disk image
 
   module _ (copies_are : copies ≡ table.copies) (are : IsCopyBodies table begin old disk before) where
-    bodies_are : (given : List Grant) → before ++ map (grant_body copies) given ≡ body.made.spell (made_for disk table) ∷ (map (copy_base table).spell (option_to_list are.base) ++ map (grant_form table).spell (old ++ given))
+    bodies_are : (given : List Grant) → before ++ map (grant_body copies) given ≡ body.made.spell (made_for disk table) ∷ (map (current_copy_base table).spell (option_to_list are.base) ++ map (grant_form table).spell (old ++ given))
     bodies_are given =
         ap₂ (λ (b : List (List ℕ)) (n : ℕ). b ++ map (grant_body n) given) are.are copies_are
-        ∙ append_mapped (grant_form table).spell (body.made.spell (made_for disk table)) (map (copy_base table).spell (option_to_list are.base)) old given
+        ∙ append_mapped (grant_form table).spell (body.made.spell (made_for disk table)) (map (current_copy_base table).spell (option_to_list are.base)) old given
 
-    tells : (given more : List Grant) → given ≡ grants past copy ++ more → All (MayGrant setting past (copy_seat copy) copy) more → length more ≤ 1 → All (body.grant (format_1 copies)).fits given → HasRecords (before ++ map (grant_body copies) given) image → Tells
+    tells : (given more : List Grant) → given ≡ grants past copy ++ more → All (MayGrant setting past (copy_seat copy) copy) more → length more ≤ 1 → All (body.grant (current copies)).fits given → HasRecords (before ++ map (grant_body copies) given) image → Tells
     tells given more same may few fits has = record {
       untold = more;
       are = All-weaker (MayGrant setting past (copy_seat copy) copy) (IsUntold past) (untold_grant setting past copy) more may;
@@ -79,7 +79,7 @@ module _ (setting : Setting) (table : Table) (copies copy disk : ℕ) (before : 
           begin_is = are.begin_is;
           made_fits = are.made_fits;
           base_fits = are.base_fits;
-          grants_fit = All-append (grant_form table).fits old given are.grants_fit (subst (λ (n : ℕ). All (body.grant (format_1 n)).fits given) copies_are fits);
+          grants_fit = All-append (grant_form table).fits old given are.grants_fit (subst (λ (n : ℕ). All (body.grant (current n)).fits given) copies_are fits);
           are = bodies_are given;
         };
         has = has;
@@ -90,4 +90,4 @@ module _ (setting : Setting) (table : Table) (copies copy disk : ℕ) (before : 
     told left here keeps =
         let (given, or, has) = keeps.each image here in
         let m = or_more (grants past copy) keeps.untold (MayGrant setting past (copy_seat copy) copy) given or keeps.may in
-        tells given m.more m.same m.are m.few (fit_more (body.grant (format_1 copies)).fits (grants past copy) keeps.untold given keeps.fit or) has
+        tells given m.more m.same m.are m.few (fit_more (body.grant (current copies)).fits (grants past copy) keeps.untold given keeps.fit or) has

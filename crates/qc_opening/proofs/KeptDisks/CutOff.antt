@@ -5,9 +5,9 @@ use Rattle.std.specs.Option.{option_and_then, option_map}
 use Rattle.std.specs.List.{All, cons_option, filter_map}
 use Rattle.std.proofs.lemmas.List.Elements.{All-nil, All-cons, All-head, All-tail, filter_map-append}
 use Rattle.qc_event.specs.declared.table.Table.{Table}
-use Rattle.qc_codec.specs.Base.{base_in, copy_base}
+use Rattle.qc_codec.specs.Base.{base_in, copy_base, format_in}
 use Rattle.qc_codec.specs.Bodies as body
-use Rattle.qc_codec.specs.Copy.{grant_form}
+use Rattle.qc_codec.specs.Copy.{granted_in}
 use Rattle.qc_codec.specs.Fields.{some_number}
 use Rattle.qc_codec.specs.Form.{all_of}
 use Rattle.qc_codec.specs.Ledger.{logged_in, made_for, readings}
@@ -67,9 +67,9 @@ same_tops disk table found first rest split =
     ∙ append-nil (tops_in found)
 
 -- nor a grant
-pub same_grants : (disk : ℕ) (table : Table) (found first rest : List (List ℕ)) → grants.to_write disk table found ≡ first ++ rest → readings (grant_form table) (found ++ first) ≡ readings (grant_form table) found
-same_grants disk table found [] rest split = ap (readings (grant_form table)) (append-nil found)
-same_grants disk table [] (b ∷ []) rest split = let same : grants.made_body disk table ≡ b = cc in ap (λ (x : List ℕ). readings (grant_form table) (x ∷ [])) (sym same) ∙ made_told table (made_for disk table) []
+pub same_grants : (disk : ℕ) (table : Table) (found first rest : List (List ℕ)) → grants.to_write disk table found ≡ first ++ rest → granted_in table (found ++ first) ≡ granted_in table found
+same_grants disk table found [] rest split = ap (granted_in table) (append-nil found)
+same_grants disk table [] (b ∷ []) rest split = let same : grants.made_body disk table ≡ b = cc in ap (λ (x : List ℕ). granted_in table (x ∷ [])) (sym same) ∙ made_told (format_in (grants.made_body disk table ∷ [])) table (made_for disk table) []
 same_grants disk table [] (b ∷ c ∷ first) rest split = absurd cc
 same_grants disk table (x ∷ found) (b ∷ first) rest split = absurd cc
 

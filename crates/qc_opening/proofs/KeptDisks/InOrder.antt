@@ -10,6 +10,7 @@ use Rattle.qc_codec.specs.Ledger.{made_for}
 use Rattle.qc_codec.specs.Order.{EachMay}
 use Rattle.qc_codec.proofs.Exact.{IsBytes}
 use Rattle.qc_codec.proofs.Fits.{made_proper}
+use Rattle.qc_codec.specs.Fields.{current_format}
 
 -- each number of a list is a byte
 abbrev pub Bytes : List ℕ → Type 0
@@ -22,7 +23,7 @@ are_bytes bytes all i = elim (cases_lt i (length bytes)) [
 ]
 
 -- a made record of a proper table fits, where what it spells is of bytes: so is the disk's number
-pub made_of_bytes : (disk : ℕ) (table : Table) → (body.table 1).fits table → Bytes (body.made.spell (made_for disk table)) → body.made.fits (made_for disk table)
+pub made_of_bytes : (disk : ℕ) (table : Table) → (body.table current_format).fits table → Bytes (body.made.spell (made_for disk table)) → body.made.fits (made_for disk table)
 unfolding body.made body.making
 made_of_bytes disk table proper bytes = made_proper disk table (bytes 2 0 (omega arith)) proper
 

@@ -14,11 +14,12 @@ use Rattle.qc_event.proofs.LastNumber.{single_number}
 use Rattle.qc_event.proofs.RootAndTops.{ready_started}
 use Rattle.qc_codec.specs.Base.{ledger_base}
 use Rattle.qc_codec.specs.Bodies as body
-use Rattle.qc_codec.specs.Ledger.{made_for, record_of_top}
+use Rattle.qc_codec.specs.Ledger.{made_in, record_of_top}
 use Rattle.qc_codec.specs.declared.past.Logged.{Logged}
 use Rattle.qc_codec.specs.declared.past.Past.{Past as Logs}
 use Rattle.qc_codec.specs.declared.record.LedgerRecord.{LedgerRecord}
 use Rattle.qc_codec.specs.declared.record.LedgerRecord.TheVariants.{Epoch, Top}
+use Rattle.qc_codec.specs.declared.record.Made.{Made}
 use Rattle.qc_journal.specs.Image.{HasRecords}
 use Rattle.qc_ledger.specs.Entered.{told_body, tops_of}
 use Rattle.qc_desk.specs.Entries.{entries_of}
@@ -80,20 +81,24 @@ module _ (setting : Setting) (past : Past) (epoch : ℕ) (legal : Legal setting 
       pub at_most_one : length more ≤ 1
       pub is_image : IsLedgerImage table epoch logs.tops (logged past ++ more) disk image
 
+    -- how the disk was made
+    abbrev how : Made
+    how = made_in m.tells.format disk table
+
     regrouped : (since : List Logged) → (m.tells.old ++ Epoch epoch ∷ []) ++ map record_of_top since ≡ m.tells.old ++ Epoch epoch ∷ map record_of_top since
     regrouped since = append_assoc m.tells.old (Epoch epoch ∷ []) (map record_of_top since)
 
     bodies_are : (tops more : List Name) → tops ≡ tops_of (entries_of ledger_seat past) ++ more
         → records ++ map (told_body (listed past)) tops
-        ≡ body.made.spell (made_for disk table) ∷ (map (ledger_base table).spell (option_to_list m.tells.base) ++ map body.ledger.spell (m.tells.old ++ Epoch epoch ∷ map record_of_top (logged past ++ map (logged_as past) more)))
+        ≡ body.made.spell how ∷ (map (ledger_base how).spell (option_to_list m.tells.base) ++ map body.ledger.spell (m.tells.old ++ Epoch epoch ∷ map record_of_top (logged past ++ map (logged_as past) more)))
     bodies_are tops more same =
         let since : map (logged_as past) tops ≡ logged past ++ map (logged_as past) more =
         ap (map (logged_as past)) same
         ∙ map-append (logged_as past) (tops_of (entries_of ledger_seat past)) more
         ∙ ap (λ (l : List Logged). l ++ map (logged_as past) more) (sym (logged_same setting past legal)) in
         ap₂ (λ (a b : List (List ℕ)). a ++ b) m.tells.are (bodies_same past tops ∙ ap (λ (l : List Logged). map body.ledger.spell (map record_of_top l)) since)
-        ∙ append_mapped body.ledger.spell (body.made.spell (made_for disk table)) (map (ledger_base table).spell (option_to_list m.tells.base)) (m.tells.old ++ Epoch epoch ∷ []) (map record_of_top (logged past ++ map (logged_as past) more))
-        ∙ ap (λ (rs : List LedgerRecord). body.made.spell (made_for disk table) ∷ (map (ledger_base table).spell (option_to_list m.tells.base) ++ map body.ledger.spell rs)) (regrouped (logged past ++ map (logged_as past) more))
+        ∙ append_mapped body.ledger.spell (body.made.spell how) (map (ledger_base how).spell (option_to_list m.tells.base)) (m.tells.old ++ Epoch epoch ∷ []) (map record_of_top (logged past ++ map (logged_as past) more))
+        ∙ ap (λ (rs : List LedgerRecord). body.made.spell how ∷ (map (ledger_base how).spell (option_to_list m.tells.base) ++ map body.ledger.spell rs)) (regrouped (logged past ++ map (logged_as past) more))
 
     tells : (tops more : List Name) → tops ≡ tops_of (entries_of ledger_seat past) ++ more → All (left.IsNext past) more → length more ≤ 1 → HasRecords (records ++ map (told_body (listed past)) tops) image → Tells
     tells tops more same next one has = record {
@@ -103,6 +108,7 @@ module _ (setting : Setting) (past : Past) (epoch : ℕ) (legal : Legal setting 
       is_image = record {
         bodies = records ++ map (told_body (listed past)) tops;
         tells = record {
+          format = m.tells.format;
           base = m.tells.base;
           old = m.tells.old;
           made_once = m.tells.made_once;

@@ -13,8 +13,7 @@ use Rattle.qc_event.specs.Base.{start_tuple}
 use Rattle.qc_event.specs.History.{limit}
 use Rattle.qc_event.specs.Tables.{base_of, first_tuple}
 use Rattle.qc_codec.specs.Base.{base_in, copy_base, tuples_of_base}
-use Rattle.qc_codec.specs.Copy.{grant_form}
-use Rattle.qc_codec.specs.Ledger.{readings}
+use Rattle.qc_codec.specs.Copy.{granted_in}
 use Rattle.qc_codec.specs.Restored.{restored_row}
 use Rattle.qc_codec.specs.declared.past.Logged.{Logged}
 use Rattle.qc_codec.specs.declared.past.Past.{Past as Logs}
@@ -34,7 +33,7 @@ use Rattle.qc_opening.proofs.KeptDisks.CutOff.{same_base, same_grants}
 use Rattle.qc_opening.proofs.KeptDisks.Stands.{first_at, first_many, rows_restored}
 
 -- what a mounting writes on a copy's disk tells no grant, nor with what it begins
-written_same : (table : Table) (disk : ℕ) (found : List (List ℕ)) → readings (grant_form table) (found ++ to_write disk table found) ≡ readings (grant_form table) found
+written_same : (table : Table) (disk : ℕ) (found : List (List ℕ)) → granted_in table (found ++ to_write disk table found) ≡ granted_in table found
 written_same table disk found = same_grants disk table found (to_write disk table found) [] (sym (append-nil (to_write disk table found)))
 
 written_begin : (table : Table) (disk : ℕ) (found : List (List ℕ)) → tuples_of_base table (base_in copy_base (found ++ to_write disk table found)) ≡ tuples_of_base table (base_in copy_base found)
@@ -58,12 +57,12 @@ module _ (disk : ℕ → ℕ) (table : Table) (images : List (List ℕ)) (record
   found_read : (copy : ℕ) (there : copy < table.copies) → (m.copies copy there).found ≡ bodies (copy + 1)
   found_read copy there = records-same (get_or images (copy + 1) []) (read (copy + 1)).0 (m.copies copy there).found (read (copy + 1)).1 (m.copies copy there).fine.0
 
-  grants_read : (copy : ℕ) → copy < table.copies → readings (grant_form table) (records (copy + 1)) ≡ granted_at (kept_told table bodies) copy
+  grants_read : (copy : ℕ) → copy < table.copies → granted_in table (records (copy + 1)) ≡ granted_at (kept_told table bodies) copy
   grants_read copy there =
-      ap (readings (grant_form table)) (m.copies copy there).all
+      ap (granted_in table) (m.copies copy there).all
       ∙ written_same table (disk (copy + 1)) (m.copies copy there).found
-      ∙ ap (readings (grant_form table)) (found_read copy there)
-      ∙ sym (get_or-map-range_with_len (λ c. readings (grant_form table) ((read (c + 1)).0)) 0 table.copies copy copy [] there (omega arith))
+      ∙ ap (granted_in table) (found_read copy there)
+      ∙ sym (get_or-map-range_with_len (λ c. granted_in table ((read (c + 1)).0)) 0 table.copies copy copy [] there (omega arith))
 
   begin_read : (copy : ℕ) → copy < table.copies → tuples_of_base table (base_in copy_base (records (copy + 1))) ≡ begins (first_told table bodies) copy
   begin_read copy there =
@@ -83,7 +82,7 @@ module _ (disk : ℕ → ℕ) (table : Table) (images : List (List ℕ)) (record
     has = λ number. (read number).1;
     same = rows_restored table base (first_told table bodies) (kept_told table bodies) m.as_many (first_many table bodies) (λ copy there.
         m.starts copy there
-        ∙ ap (λ (row : List Tuple). restored_row m.past.tops (length table.records) (from_row row) (readings (grant_form table) (records (copy + 1)))) (begin_read copy there)
+        ∙ ap (λ (row : List Tuple). restored_row m.past.tops (length table.records) (from_row row) (granted_in table (records (copy + 1)))) (begin_read copy there)
         ∙ ap₂ (λ (tops : List Logged) (gs : List Grant). restored_row tops (length table.records) (start_tuple (first_told table bodies) copy) gs) tops_read (grants_read copy there));
   }
 
@@ -92,7 +91,7 @@ module _ (disk : ℕ → ℕ) (table : Table) (images : List (List ℕ)) (record
 module _ (disk : ℕ → ℕ) (table : Table) (told : ℕ → Option (List ℕ)) (records : ℕ → List (List ℕ)) (epoch : ℕ) (base : List (List Tuple)) (m : MountedOn disk table told records epoch base) (none : HaveNoGrantsOn disk table told) where
   -- bodies tell no grant, and that the copy begins with the table's tuples
   abbrev TellNone : List (List ℕ) → Type 0
-  TellNone bodies = (readings (grant_form table) bodies ≡ []) × (tuples_of_base table (base_in copy_base bodies) ≡ map first_tuple table.records)
+  TellNone bodies = (granted_in table bodies ≡ []) × (tuples_of_base table (base_in copy_base bodies) ≡ map first_tuple table.records)
 
   no_grants : (number : ℕ) (past : Logs) (limit : ℕ) (found : List (List ℕ)) (o : Option (List ℕ)) → IsSome o → IfSome o (λ image. HasRecords [] image ⊎ IsCopyImage table (map first_tuple table.records) [] number image)
       → IfSome o (λ bytes. HasRecords found bytes × AreMountableAsCopy number table past limit found) → TellNone found

@@ -15,8 +15,8 @@ use Rattle.qc_event.specs.History.{Past, grants, limit}
 use Rattle.qc_event.specs.Legal.{Legal}
 use Rattle.qc_event.specs.Tables.{setting_of}
 use Rattle.qc_codec.specs.Base.{base_in, copy_base, tuples_of_base}
-use Rattle.qc_codec.specs.Copy.{grant_form}
-use Rattle.qc_codec.specs.Ledger.{IsOld, readings}
+use Rattle.qc_codec.specs.Copy.{granted_in}
+use Rattle.qc_codec.specs.Ledger.{IsOld}
 use Rattle.qc_codec.specs.Restored.{restored_row}
 use Rattle.qc_desk.specs.Held.{from_row}
 use Rattle.qc_refine.specs.Folded.{begins}
@@ -51,9 +51,9 @@ first_at table bodies copy there = get_or-map-range_with_len (λ c. tuples_of_ba
 module _ (disk : ℕ → ℕ) (table : Table) (told : ℕ → Option (List ℕ)) (records : ℕ → List (List ℕ)) (epoch : ℕ) (base : List (List Tuple)) (m : MountedOn disk table told records epoch base) where
   -- what a copy had granted before
   abbrev pub old : ℕ → List Grant
-  old copy = readings (grant_form table) (records (copy + 1))
+  old copy = granted_in table (records (copy + 1))
 
-  pub copy_spelled : (copy : ℕ) → copy < table.copies → copy_records.Spell (disk (copy + 1)) table m.past (tuples_of_base table (base_in copy_base (records (copy + 1)))) (readings (grant_form table) (records (copy + 1))) (records (copy + 1))
+  pub copy_spelled : (copy : ℕ) → copy < table.copies → copy_records.Spell (disk (copy + 1)) table m.past (tuples_of_base table (base_in copy_base (records (copy + 1)))) (granted_in table (records (copy + 1))) (records (copy + 1))
   copy_spelled copy there =
       copy_records.mounted (disk (copy + 1)) table m.past (m.limit (copy + 1)) (told (copy + 1)) (records (copy + 1)) m.proper (m.copies copy there) (m.bytes (copy + 1) (omega (arith, there)))
 
@@ -61,10 +61,10 @@ module _ (disk : ℕ → ℕ) (table : Table) (told : ℕ → Option (List ℕ))
   ledger_mounted = ledger_records.mounted (disk 0) table m.past epoch m.proper m.small (m.limit 0) (told 0) (records 0) m.ledger (m.bytes 0 (omega arith))
 
   abbrev before : Kept
-  before = record { tops = m.past.tops; granted = map (λ copy. readings (grant_form table) (records (copy + 1))) (range_with_len 0 table.copies) }
+  before = record { tops = m.past.tops; granted = map (λ copy. granted_in table (records (copy + 1))) (range_with_len 0 table.copies) }
 
-  before_at : (copy : ℕ) → copy < table.copies → granted_at before copy ≡ readings (grant_form table) (records (copy + 1))
-  before_at copy there = get_or-map-range_with_len (λ c. readings (grant_form table) (records (c + 1))) 0 table.copies copy copy [] there (omega arith)
+  before_at : (copy : ℕ) → copy < table.copies → granted_at before copy ≡ granted_in table (records (copy + 1))
+  before_at copy there = get_or-map-range_with_len (λ c. granted_in table (records (c + 1))) 0 table.copies copy copy [] there (omega arith)
 
   -- with what the copies begin
   abbrev first : List (List Tuple)
@@ -80,14 +80,14 @@ module _ (disk : ℕ → ℕ) (table : Table) (told : ℕ → Option (List ℕ))
 
     -- what an image of a copy's disk tells
     abbrev CopyTells : ℕ → Type 0
-    CopyTells copy = copy_image.Tells (setting_of table base) table (length base) copy (disk (copy + 1)) (records (copy + 1)) (tuples_of_base table (base_in copy_base (records (copy + 1)))) (readings (grant_form table) (records (copy + 1))) past (get_or images (copy + 1) [])
+    CopyTells copy = copy_image.Tells (setting_of table base) table (length base) copy (disk (copy + 1)) (records (copy + 1)) (tuples_of_base table (base_in copy_base (records (copy + 1)))) (granted_in table (records (copy + 1))) past (get_or images (copy + 1) [])
 
     abbrev LedgerTells : Type 0
     LedgerTells = ledger_image.Tells (setting_of table base) past epoch legal few of_epoch m.small (disk 0) table m.past (records 0) ledger_mounted (get_or images 0 [])
 
     -- those of each copy, with none where there is no copy
     module _ (l : LedgerTells) (c : Each table.copies CopyTells) where
-      told_at : (copy : ℕ) → (untold : List Grant) × (copy < table.copies → All (IsUntold past) untold × (length untold ≤ 1) × All (IsAskedOf past copy) untold × IsCopyImage table (begins first copy) (readings (grant_form table) (records (copy + 1)) ++ (grants past copy ++ untold)) (disk (copy + 1)) (get_or images (copy + 1) []))
+      told_at : (copy : ℕ) → (untold : List Grant) × (copy < table.copies → All (IsUntold past) untold × (length untold ≤ 1) × All (IsAskedOf past copy) untold × IsCopyImage table (begins first copy) (granted_in table (records (copy + 1)) ++ (grants past copy ++ untold)) (disk (copy + 1)) (get_or images (copy + 1) []))
       told_at copy = elim (cases_lt copy table.copies) [
         | inl there ↦ (
           (c copy there).untold,
@@ -95,14 +95,14 @@ module _ (disk : ℕ → ℕ) (table : Table) (told : ℕ → Option (List ℕ))
             (c copy there).are,
             (c copy there).few,
             (c copy there).asked,
-            subst (λ row. IsCopyImage table row (readings (grant_form table) (records (copy + 1)) ++ (grants past copy ++ (c copy there).untold)) (disk (copy + 1)) (get_or images (copy + 1) [])) (sym (first_at table records copy there)) (c copy there).is_image,
+            subst (λ row. IsCopyImage table row (granted_in table (records (copy + 1)) ++ (grants past copy ++ (c copy there).untold)) (disk (copy + 1)) (get_or images (copy + 1) [])) (sym (first_at table records copy there)) (c copy there).is_image,
           ),
         )
         | inr past_all ↦ ([], λ here. absurd (omega (arith, here, past_all)))
       ]
 
       abbrev all_granted : ℕ → List Grant
-      all_granted copy = readings (grant_form table) (records (copy + 1)) ++ (grants past copy ++ (told_at copy).0)
+      all_granted copy = granted_in table (records (copy + 1)) ++ (grants past copy ++ (told_at copy).0)
 
       abbrev now : Kept
       now = record { tops = m.past.tops ++ (logged past ++ l.more); granted = map all_granted (range_with_len 0 table.copies) }
@@ -113,7 +113,7 @@ module _ (disk : ℕ → ℕ) (table : Table) (told : ℕ → Option (List ℕ))
       old_grants : (copy : ℕ) → copy < table.copies → All (λ (g : Grant). IsOld epoch g.access) (granted_at before copy)
       old_grants copy there =
           subst (All (λ (g : Grant). IsOld epoch g.access)) (sym (before_at copy there))
-          (subst (λ (e : ℕ). All (λ (g : Grant). IsOld e g.access) (readings (grant_form table) (records (copy + 1)))) (sym m.ledger.next) (copy_spelled copy there).are_old)
+          (subst (λ (e : ℕ). All (λ (g : Grant). IsOld e g.access) (granted_in table (records (copy + 1)))) (sym m.ledger.next) (copy_spelled copy there).are_old)
 
       beside : StandBeside first epoch (setting_of table base) before now past
       beside = let many = first_many table records in record {
@@ -155,5 +155,5 @@ module _ (disk : ℕ → ℕ) (table : Table) (told : ℕ → Option (List ℕ))
 
       copies_tell : Each table.copies (λ copy. ∥ CopyTells past images legal few of_epoch copy ∥₁)
       copies_tell copy there = ∥∥₁_map (kept.copies copy there) (λ keeps.
-          copy_image.told (setting_of table base) table (length base) copy (disk (copy + 1)) (records (copy + 1)) (tuples_of_base table (base_in copy_base (records (copy + 1)))) (readings (grant_form table) (records (copy + 1))) past (get_or images (copy + 1) [])
+          copy_image.told (setting_of table base) table (length base) copy (disk (copy + 1)) (records (copy + 1)) (tuples_of_base table (base_in copy_base (records (copy + 1)))) (granted_in table (records (copy + 1))) past (get_or images (copy + 1) [])
           m.as_many (copy_spelled copy there).tells (λ i. i ≡ get_or images (copy + 1) []) refl keeps)

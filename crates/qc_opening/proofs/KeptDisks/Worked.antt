@@ -11,10 +11,10 @@ use Rattle.qc_event.specs.declared.table.Row.{Row}
 use Rattle.qc_event.specs.declared.table.Table.{Table}
 use Rattle.qc_event.specs.Base.{start_tuple}
 use Rattle.qc_event.specs.Tables.{base_of, setting_of}
-use Rattle.qc_codec.specs.Base.{base_in, copy_base, tuples_of_base}
+use Rattle.qc_codec.specs.Base.{base_in, copy_base, format_in, tuples_of_base}
 use Rattle.qc_codec.specs.Copy as Copy
-use Rattle.qc_codec.specs.Copy.{grant_form}
-use Rattle.qc_codec.specs.Ledger.{MayStand, made_for, readings}
+use Rattle.qc_codec.specs.Copy.{granted_in}
+use Rattle.qc_codec.specs.Ledger.{MayStand, made_for}
 use Rattle.qc_codec.specs.Restored.{restored_row}
 use Rattle.qc_desk.specs.Held.{from_row}
 use Rattle.qc_journal.specs.Image.{HasRecords, IsShort, length_bytes, row as records_row}
@@ -27,7 +27,7 @@ use Rattle.qc_refine.proofs.Restoring.ImageReadings.{made_told}
 use Rattle.qc_refine.proofs.WorkedPairs.{has}
 use Rattle.qc_opening.proofs.KeptDisks.Stands.{stand}
 use Rattle.qc_codec.specs.Bodies as body
-use Rattle.qc_codec.specs.Fields.{config, datum, half, long, number_datum, word}
+use Rattle.qc_codec.specs.Fields.{config, current_format, datum, half, long, number_datum, word}
 use Rattle.qc_codec.proofs.Order.{each_none}
 use Rattle.qc_ledger.specs.Image as tops
 use Rattle.qc_site.specs.Image as grants
@@ -56,7 +56,7 @@ first_epoch : tops.epoch_body 1 ≡ 2 ∷ 0 ∷ 0 ∷ 0 ∷ 1 ∷ []
 unfolding body.ledger word
 first_epoch = refl
 
-proper : (body.table 1).fits table
+proper : (body.table current_format).fits table
 unfolding body.table body.row body.label config datum number_datum half long
 proper = search rules
 
@@ -112,8 +112,8 @@ mounted = record {
   bytes = λ number few. each_bytes number few;
   ledger = record {
     found = [];
-    ledgers = record { made = tt; order = each_none (MayStand 0) };
-    fine = (inl (refl, omega arith), record { ledgers = record { made = tt; order = each_none (MayStand 0) }; epoch = omega arith; room = ledger_room });
+    ledgers = record { made = (current_format, tt); order = each_none (MayStand 0) };
+    fine = (inl (refl, omega arith), record { ledgers = record { made = (current_format, tt); order = each_none (MayStand 0) }; epoch = omega arith; room = ledger_room });
     past_is = refl;
     next = refl;
     all = refl;
@@ -131,14 +131,15 @@ mounted = record {
     each_copy : (copy : ℕ) → copy < 1 → copies.MountsCopy (copy + 1) table (record { epoch = 0; base = None; tops = [] }) 1000 (Some []) (records (copy + 1))
     each_copy zero there = record {
       found = [];
-      granted = record { made = tt; order = each_none (Copy.MayStand 1 table (record { epoch = 0; base = None; tops = [] })) };
-      fine = (inl (refl, omega arith), record { granted = record { made = tt; order = each_none (Copy.MayStand 1 table (record { epoch = 0; base = None; tops = [] })) }; room = copy_room });
+      now = tt;
+      granted = record { made = (current_format, tt); order = each_none (Copy.MayStand 1 table (record { epoch = 0; base = None; tops = [] })) };
+      fine = (inl (refl, omega arith), record { granted = record { made = (current_format, tt); order = each_none (Copy.MayStand 1 table (record { epoch = 0; base = None; tops = [] })) }; room = copy_room });
       all = refl;
     }
     each_copy (suc copy) there = absurd (omega (arith, there))
 
-    each_start : (copy : ℕ) → copy < 1 → get_or (base_of table) copy [] ≡ restored_row [] 1 (from_row (tuples_of_base table (base_in copy_base (records (copy + 1))))) (readings (grant_form table) (records (copy + 1)))
-    each_start zero there = ap (restored_row [] 1 (start_tuple (base_of table) 0)) (sym (made_told table (made_for 1 table) []))
+    each_start : (copy : ℕ) → copy < 1 → get_or (base_of table) copy [] ≡ restored_row [] 1 (from_row (tuples_of_base table (base_in copy_base (records (copy + 1))))) (granted_in table (records (copy + 1)))
+    each_start zero there = ap (restored_row [] 1 (start_tuple (base_of table) 0)) (sym (made_told (format_in (records 1)) table (made_for 1 table) []))
     each_start (suc copy) there = absurd (omega (arith, there))
 
 -- THE IMAGES

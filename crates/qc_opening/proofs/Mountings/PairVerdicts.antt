@@ -8,7 +8,6 @@ use Rattle.qc_codec.specs.declared.image.ImageFault.{ImageFault}
 use Rattle.qc_codec.specs.declared.image.ImageFault.TheVariants as image
 use Rattle.qc_codec.specs.declared.record.Made.{Made}
 use Rattle.qc_codec.specs.Base.{active, is_swapped}
-use Rattle.qc_event.specs.declared.table.Table.{Table}
 use Rattle.qc_journal.specs.Image.{HasRecords, IsBroken}
 use Rattle.qc_journal.proofs.Readings.{broken-same, records-same, records_not_broken}
 use Rattle.qc_pair.specs.Front.{base_form, IsFrontFault, MayBegin, MayStandSecond}
@@ -28,12 +27,12 @@ same_bad one two d f = ap₂ bad_image d f
 module _ (kind : Kind) where
   -- THE FIRST TWO BODIES
 
-  made_begins : (who : ℕ) (P : Table → Type 0) (o : Option Made) → MatchOption o ⊥ (λ (made : Made). (made.who ≡ who) × P made.table) → MatchOption o ⊥ (λ (made : Made). (made.who ≡ who) × Unit {0})
+  made_begins : (who : ℕ) (P : Made → Type 0) (o : Option Made) → MatchOption o ⊥ (λ (made : Made). (made.who ≡ who) × P made) → MatchOption o ⊥ (λ (made : Made). (made.who ≡ who) × Unit {0})
   made_begins who P (Some made) begins = (begins.0, tt)
   made_begins who P o begins = absurd begins
 
   first_begins : (who : ℕ) (first second : List ℕ) (bodies : List (List ℕ)) → MayBegin kind who (first ∷ second ∷ bodies) → MayBegin kind who (first ∷ [])
-  first_begins who first second bodies begins = made_begins who (λ table. MayStandSecond kind table second) (all_of body.made first) begins
+  first_begins who first second bodies begins = made_begins who (λ made. MayStandSecond kind made second) (all_of body.made first) begins
 
   -- bodies that may begin a journal have no fault at its front
   pub front_or_begins : (who : ℕ) (bodies : List (List ℕ)) (index : ℕ) → IsFrontFault kind who bodies index → MayBegin kind who bodies → ⊥

@@ -6,7 +6,7 @@ use Rattle.std.specs.List.{filter_map, range_with_len}
 use Rattle.std.proofs.lemmas.List.FromFn.{fill_by_all, get_or-map-range_with_len, length-map-range_with_len}
 use Rattle.qc_codec.specs.Base.{base_in, copy_base, tuples_of_base}
 use Rattle.qc_codec.specs.Bodies as body
-use Rattle.qc_codec.specs.Copy.{grant_form}
+use Rattle.qc_codec.specs.Copy.{granted_in}
 use Rattle.qc_codec.specs.Ledger.{logged_in, readings}
 use Rattle.qc_codec.specs.declared.past.Logged.{Logged}
 use Rattle.qc_config.specs.declared.tuple.Tuple.{Tuple}
@@ -103,7 +103,7 @@ module _ (table : Table) (disk : ℕ → ℕ) (images actives : List (List ℕ))
 
   same_kept : kept_told table r.bodies ≡ kept_in_pairs table bodies
   same_kept = ap₂ (λ (tops : List Logged) (granted : List (List Grant)). record { tops = tops; granted = granted })
-      (ap (λ found. filter_map logged_in (readings body.ledger found)) same_ledger) (same_read (readings (grant_form table)))
+      (ap (λ found. filter_map logged_in (readings body.ledger found)) same_ledger) (same_read (granted_in table))
 
   pub active_restore : RestoreInPairs table images tuples
   active_restore = record {

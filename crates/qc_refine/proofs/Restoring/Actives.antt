@@ -4,7 +4,7 @@ use Rattle.std.specs.Prelude.{ℕ, ◌≡◌, ◌+◌, ◌<◌, ◌≤◌, List,
 use Rattle.std.specs.List.{filter_map, range_with_len}
 use Rattle.qc_codec.specs.Base.{base_in, copy_base, tuples_of_base}
 use Rattle.qc_codec.specs.Bodies as body
-use Rattle.qc_codec.specs.Copy.{grant_form}
+use Rattle.qc_codec.specs.Copy.{granted_in}
 use Rattle.qc_codec.specs.Ledger.{logged_in, readings}
 use Rattle.qc_codec.specs.declared.past.Logged.{Logged}
 use Rattle.qc_config.specs.declared.tuple.Tuple.{Tuple}
@@ -64,7 +64,7 @@ first_told table bodies = map (λ copy. tuples_of_base table (base_in copy_base 
 abbrev pub kept_told : Table → (ℕ → List (List ℕ)) → Kept
 kept_told table bodies = record {
   tops = filter_map logged_in (readings body.ledger (bodies 0));
-  granted = map (λ copy. readings (grant_form table) (bodies (copy + 1))) (range_with_len 0 table.copies);
+  granted = map (λ copy. granted_in table (bodies (copy + 1))) (range_with_len 0 table.copies);
 }
 
 -- Taken alone, the active images restore these tuples: their records do, as they are read.

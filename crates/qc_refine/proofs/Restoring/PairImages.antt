@@ -6,11 +6,11 @@ use Rattle.std.proofs.lemmas.List.{get_or_past}
 use Rattle.std.proofs.lemmas.List.Elements.{All-cons, All-nil}
 use Rattle.std.proofs.lemmas.List.FromFn.{length-map-range_with_len, get_or-map-range_with_len}
 use Rattle.qc_config.specs.Val.{Datum}
-use Rattle.qc_codec.specs.Base.{active, active_disk, base_in, copy_base, tuples_of_base}
-use Rattle.qc_codec.specs.Copy.{grant_form}
+use Rattle.qc_codec.specs.Base.{active, active_disk, base_in, copy_base, current_copy_base, tuples_of_base}
+use Rattle.qc_codec.specs.Copy.{granted_in}
 use Rattle.qc_codec.specs.Form.{Form}
-use Rattle.qc_codec.specs.Ledger.{readings}
 use Rattle.qc_codec.specs.declared.record.BaseRecord.{BaseRecord}
+use Rattle.qc_codec.specs.declared.record.Made.{Made}
 use Rattle.qc_config.specs.declared.tuple.Tuple.{Tuple}
 use Rattle.qc_event.specs.declared.table.Table.{Table}
 use Rattle.qc_event.specs.History.{Past}
@@ -32,13 +32,13 @@ use Rattle.qc_refine.proofs.Restoring.RestoredBases.{folded_carry, fresh_begins,
 -- WHAT IS READ
 
 -- what a copy's bodies tell where its pair was folded: what it held, and no grant
-pub folded_copy_told : (table : Table) (epoch : ℕ) (held : List Tuple) (disk : ℕ) (bodies : List (List ℕ)) → IsFoldedCopy table epoch held disk bodies → (readings (grant_form table) bodies ≡ []) × (tuples_of_base table (base_in copy_base bodies) ≡ held)
+pub folded_copy_told : (table : Table) (epoch : ℕ) (held : List Tuple) (disk : ℕ) (bodies : List (List ℕ)) → IsFoldedCopy table epoch held disk bodies → (granted_in table bodies ≡ []) × (tuples_of_base table (base_in copy_base bodies) ≡ held)
 folded_copy_told table epoch held disk bodies is =
     copy_told table held [] disk bodies (record {
       base = Some is.base;
       begin_is = sym is.holds;
       made_fits = is.made_fits;
-      base_fits = All-cons (copy_base table).fits is.base [] is.base_fits (All-nil _);
+      base_fits = All-cons (current_copy_base table).fits is.base [] is.base_fits (All-nil _);
       grants_fit = All-nil _;
       are = is.are;
     })
@@ -46,7 +46,7 @@ folded_copy_told table epoch held disk bodies is =
 -- READ AGAIN
 
 -- whatever bodies are read of the images of a pair, the active ones tell what they do
-pub tells_read : (form : Table → Form BaseRecord) (disk : ℕ) (Tells : ℕ → List (List ℕ) → Type 0) (image image' : List ℕ) (own spare : List (List ℕ)) → TellsPair form disk Tells image image' → HasRecords own image → HasRecords spare image'
+pub tells_read : (form : Made → Form BaseRecord) (disk : ℕ) (Tells : ℕ → List (List ℕ) → Type 0) (image image' : List ℕ) (own spare : List (List ℕ)) → TellsPair form disk Tells image image' → HasRecords own image → HasRecords spare image'
     → Tells (active_disk form own spare disk) (active form own spare)
 tells_read form disk Tells image image' own spare t has has_spare =
     subst (λ (a : List (List ℕ)). Tells (active_disk form a spare disk) (active form a spare)) (sym (records-same image t.own own t.has has))
@@ -61,8 +61,8 @@ module _ (table : Table) (images : List (List ℕ)) (base : List (List Tuple)) (
   begin_at : (copy : ℕ) → copy < table.copies → begins (first_in table r.bodies) copy ≡ tuples_of_base table (base_in copy_base (copy_bodies table r.bodies copy))
   begin_at copy there = get_or-map-range_with_len (λ c. tuples_of_base table (base_in copy_base (copy_bodies table r.bodies c))) 0 table.copies copy copy [] there (omega arith)
 
-  granted_is : (copy : ℕ) → copy < table.copies → granted_at (kept_in_pairs table r.bodies) copy ≡ readings (grant_form table) (copy_bodies table r.bodies copy)
-  granted_is copy there = get_or-map-range_with_len (λ c. readings (grant_form table) (copy_bodies table r.bodies c)) 0 table.copies copy copy [] there (omega arith)
+  granted_is : (copy : ℕ) → copy < table.copies → granted_at (kept_in_pairs table r.bodies) copy ≡ granted_in table (copy_bodies table r.bodies copy)
+  granted_is copy there = get_or-map-range_with_len (λ c. granted_in table (copy_bodies table r.bodies c)) 0 table.copies copy copy [] there (omega arith)
 
   abbrev Open : ℕ → Type 0
   Open = IsOpenPair (setting_of table base) past first (first_in table r.bodies) standing.now (kept_in_pairs table r.bodies)
@@ -115,7 +115,7 @@ pairs_restore_one table images one two r s =
 -- WHAT PAIRS TELL
 
 -- what is told of the active bodies of a pair may be told otherwise
-pub told_too : {form : Table → Form BaseRecord} {disk : ℕ} {image image' : List ℕ} (Tells Tells' : ℕ → List (List ℕ) → Type 0) → ((number : ℕ) (bodies : List (List ℕ)) → Tells number bodies → Tells' number bodies)
+pub told_too : {form : Made → Form BaseRecord} {disk : ℕ} {image image' : List ℕ} (Tells Tells' : ℕ → List (List ℕ) → Type 0) → ((number : ℕ) (bodies : List (List ℕ)) → Tells number bodies → Tells' number bodies)
     → TellsPair form disk Tells image image' → TellsPair form disk Tells' image image'
 told_too Tells Tells' follows t = record { own = t.own; spare = t.spare; has = t.has; has_spare = t.has_spare; tells = follows _ _ t.tells }
 
@@ -123,7 +123,7 @@ told_too Tells Tells' follows t = record { own = t.own; spare = t.spare; has = t
 abbrev pub AnyBodies : ℕ → List (List ℕ) → Type 0
 AnyBodies number bodies = Unit {0}
 
-pub some_told : {form : Table → Form BaseRecord} {disk : ℕ} {image image' : List ℕ} (Tells : ℕ → List (List ℕ) → Type 0) → TellsPair form disk Tells image image' → TellsPair form disk AnyBodies image image'
+pub some_told : {form : Made → Form BaseRecord} {disk : ℕ} {image image' : List ℕ} (Tells : ℕ → List (List ℕ) → Type 0) → TellsPair form disk Tells image image' → TellsPair form disk AnyBodies image image'
 some_told Tells t = told_too Tells AnyBodies (λ number bodies is. tt) t
 
 -- the image at a place has records

@@ -1,9 +1,9 @@
-use Rattle.std.proofs.Common.{◌≡◌, ◌∙◌, ap, subst}
+use Rattle.std.proofs.Common.{◌≡◌, ap, ap₂, subst}
 use Rattle.qc_codec.specs.Bodies as body
 use Rattle.qc_codec.specs.Gives.{Spells}
-use Rattle.qc_codec.specs.Ledger.{made_for}
+use Rattle.qc_codec.specs.Ledger.{made_for, made_in}
 use Rattle.qc_codec.specs.declared.record.Made.{Made}
-use Rattle.qc_codec.proofs.Bases.{made_is}
+use Rattle.qc_codec.proofs.Fits.{made_current}
 use Rattle.qc_audit.proofs.Parts.{one_made}
 use Rattle.qc_audit.proofs.reading.table_in.Goals as goal
 
@@ -15,5 +15,5 @@ pub returns-clause-found : goal.returns-clause-found
 returns-clause-found c =
     let found = c.in_ok-who.ensures.found in
     let made = c.in_ok-who.field-0 in
-    let is : made ≡ made_for 0 made.table = made_is made found.1 ∙ ap (λ n. made_for n made.table) c.if-who-ne-LEDGER_DISK.false in
+    let is : made ≡ made_for 0 made.table = ap₂ (λ format n. made_in format n made.table) (made_current made found.1) c.if-who-ne-LEDGER_DISK.false in
     subst (Spells body.made c.args.bytes.now) is found

@@ -7,8 +7,9 @@ use Rattle.qc_event.specs.declared.table.Table.{Table}
 use Rattle.qc_codec.proofs.Fits.{made_proper}
 use Rattle.qc_audit.proofs.Fronts.{front_short}
 use Rattle.qc_audit.proofs.saving.front.Goals as goal
+use Rattle.qc_codec.specs.Fields.{current_format}
 
-short : {E : Type 0} (written : Result (Vec ℕ Global) E) (t copied : Table) → copied ≡ t → (table 1).fits t → IfOk written (λ bytes. Spells made bytes.items (made_for 0 copied)) → IfOk written (λ bytes. length bytes.items < 2 ^ 32)
+short : {E : Type 0} (written : Result (Vec ℕ Global) E) (t copied : Table) → copied ≡ t → (table current_format).fits t → IfOk written (λ bytes. Spells made bytes.items (made_for 0 copied)) → IfOk written (λ bytes. length bytes.items < 2 ^ 32)
 short (Ok bytes) t copied same fits spelled = subst (λ n. n < 2 ^ 32) (sym (ap length spelled.0)) (subst (λ (u : Table). length (made.spell (made_for 0 u)) < 2 ^ 32) (sym same) (front_short t fits))
 short (Err e) t copied same fits spelled = tt
 

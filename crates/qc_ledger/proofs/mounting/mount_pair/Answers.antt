@@ -4,6 +4,7 @@ use Rattle.std.specs.Prelude.{false, true, Ok, Err}
 use Rattle.std.specs.Result.{IsErrOf}
 use Rattle.qc_codec.specs.declared.past.Past.{Past}
 use Rattle.qc_codec.proofs.Fits.{table_sized}
+use Rattle.qc_codec.specs.Fields.{current_format}
 use Rattle.qc_journal.specs.Image.{bodies_of}
 use Rattle.qc_journal.specs.Journal.{Keeps}
 use Rattle.qc_ledger.specs.Image.{AreMountableAsLedger, IsLedgerFault, to_write}
@@ -18,7 +19,7 @@ use Rattle.qc_pair.proofs.Halves.{active_keeps}
 use Rattle.qc_ledger.proofs.mounting.mount_pair.Goals as goal
 
 pub into_fold-journal-requires-clause-few : goal.into_fold-journal-requires-clause-few
-into_fold-journal-requires-clause-few g c = (table_sized 1 c.args.table.now c.requires.proper).copies
+into_fold-journal-requires-clause-few g c = (table_sized current_format c.args.table.now c.requires.proper).copies
 
 pub returns-in-Ok-begin-clause-mounts : goal.returns-in-Ok-begin-clause-mounts
 returns-in-Ok-begin-clause-mounts g c =

@@ -5,11 +5,12 @@ use Rattle.std.specs.List.{filter_map, range_with_len}
 use Rattle.std.proofs.lemmas.List.FromFn.{fill_by_all, get_or-map-range_with_len, length-map-range_with_len}
 use Rattle.qc_codec.specs.Base.{active, base_in, copy_base, is_swapped, ledger_base, number_of_base, tuples_of_base}
 use Rattle.qc_codec.specs.Bodies as body
-use Rattle.qc_codec.specs.Copy.{grant_form}
+use Rattle.qc_codec.specs.Copy.{granted_in}
 use Rattle.qc_codec.specs.Form.{Form}
 use Rattle.qc_codec.specs.Ledger.{logged_in, readings}
 use Rattle.qc_codec.specs.declared.past.Logged.{Logged}
 use Rattle.qc_codec.specs.declared.record.BaseRecord.{BaseRecord}
+use Rattle.qc_codec.specs.declared.record.Made.{Made}
 use Rattle.qc_config.specs.declared.tuple.Tuple.{Tuple}
 use Rattle.qc_event.specs.declared.event.Grant.{Grant}
 use Rattle.qc_event.specs.declared.table.Table.{Table}
@@ -46,7 +47,7 @@ module _ (written : ℕ → List (List ℕ) → List (List ℕ)) where
     spare_same true number found first rest split = keeps number found first rest split
     spare_same false number found first rest split = nothing found first rest split
 
-  module _ (form : Table → Form BaseRecord) (keeps_base : Keeps (base_in form)) (pair : ℕ) (image image' later later' : List ℕ) (cut : IsPairCutOff form pair written image image' later later')
+  module _ (form : Made → Form BaseRecord) (keeps_base : Keeps (base_in form)) (pair : ℕ) (image image' later later' : List ℕ) (cut : IsPairCutOff form pair written image image' later later')
       (own_bodies spare_bodies : List (List ℕ)) (has : HasRecords own_bodies image) (has_spare : HasRecords spare_bodies image') where
     abbrev own_now : List (List ℕ)
     own_now = cut.own.found ++ cut.own.has.first
@@ -90,7 +91,7 @@ tops_in bodies = filter_map logged_in (readings body.ledger bodies)
 
 -- the grants that a copy's bodies tell, and with what it begins
 abbrev copy_told : Table → List (List ℕ) → List Grant × List Tuple
-copy_told table bodies = (readings (grant_form table) bodies, tuples_of_base table (base_in copy_base bodies))
+copy_told table bodies = (granted_in table bodies, tuples_of_base table (base_in copy_base bodies))
 
 module _ (table : Table) (images later : List (List ℕ)) (cut : AreCutOffInPairs table images later) (tuples : List (List Tuple)) (r : RestoreInPairs table images tuples) where
   ledger_alike : TellsLedger table later (λ number bodies. tops_in bodies ≡ tops_in (ledger_bodies table r.bodies))

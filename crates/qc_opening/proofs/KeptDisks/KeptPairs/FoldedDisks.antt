@@ -1,9 +1,10 @@
 -- Which image of a pair is active where one was kept, and the other one folded into or not.
-use Rattle.std.proofs.Common.{◌≡◌, ℕ, ◌+◌, ◌<◌, ◌≤◌, inl, inr, Bool, true, false, List, [], ◌∷◌, sym, ap, ◌∙◌, subst, arith}
+use Rattle.std.proofs.Common.{◌≡◌, ℕ, ◌+◌, ◌<◌, ◌≤◌, inl, inr, Bool, true, false, List, [], ◌∷◌, refl, sym, ap, ◌∙◌, subst, arith}
 use Rattle.std.specs.Prelude.{if◌then◌else◌, not, Option}
 use Rattle.std.proofs.lemmas.Bool.{le-ltb, lt-ltb, ltb-false, ltb-true}
 use Rattle.qc_codec.specs.Base.{is_swapped, number_of_base}
 use Rattle.qc_codec.specs.Bodies as body
+use Rattle.qc_codec.specs.Form.{Form, all_of}
 use Rattle.qc_codec.specs.Ledger.{made_for}
 use Rattle.qc_codec.specs.declared.record.BaseRecord.{BaseRecord}
 use Rattle.qc_codec.proofs.Bases.{base_behind}
@@ -11,7 +12,7 @@ use Rattle.qc_codec.proofs.Exact.{IsExact, all_again}
 use Rattle.qc_event.specs.declared.table.Table.{Table}
 use Rattle.qc_journal.specs.Image.{HasRecords}
 use Rattle.qc_opening.specs.Pairs.{IsUnfolded}
-use Rattle.qc_pair.specs.Front.{base_form, number_in}
+use Rattle.qc_pair.specs.Front.{base_form, current_base, number_in}
 use Rattle.qc_pair.specs.Opening.{HaveActive}
 use Rattle.qc_pair.specs.Pair.{number_at}
 use Rattle.qc_pair.specs.declared.kind.Kind.{Kind}
@@ -90,12 +91,18 @@ module _ (kind : Kind) (who : ℕ) where
 
 -- WHAT WAS FOLDED
 
-exact_base : (kind : Kind) (table : Table) → IsExact (base_form kind table)
-exact_base Ledger table = exact_ledger_base table
-exact_base Copy table = exact_copy_base table
+exact_base : (kind : Kind) (table : Table) → IsExact (current_base kind table)
+exact_base Ledger table = exact_ledger_base (made_for 0 table)
+exact_base Copy table = exact_copy_base (made_for 0 table)
+
+-- the base behind a made record of the current format
+base_now : (kind : Kind) (table : Table) (disk : ℕ) → base_form kind (made_for disk table) ≡ current_base kind table
+base_now Ledger table disk = refl
+base_now Copy table disk = refl
 
 -- behind a made record a base has its number
-pub number_behind : (kind : Kind) (table : Table) (disk : ℕ) (b : BaseRecord) → body.made.fits (made_for disk table) → (base_form kind table).fits b
-    → number_in kind (body.made.spell (made_for disk table) ∷ (base_form kind table).spell b ∷ []) ≡ b.number
+pub number_behind : (kind : Kind) (table : Table) (disk : ℕ) (b : BaseRecord) → body.made.fits (made_for disk table) → (current_base kind table).fits b
+    → number_in kind (body.made.spell (made_for disk table) ∷ (current_base kind table).spell b ∷ []) ≡ b.number
 number_behind kind table disk b made_fits fits =
-    ap number_of_base (base_behind (base_form kind) (made_for disk table) ((base_form kind table).spell b) [] made_fits ∙ all_again (base_form kind table) (exact_base kind table) b fits)
+    ap number_of_base (base_behind (base_form kind) (made_for disk table) ((current_base kind table).spell b) [] made_fits
+    ∙ ap (λ (f : Form BaseRecord). all_of f ((current_base kind table).spell b)) (base_now kind table disk) ∙ all_again (current_base kind table) (exact_base kind table) b fits)

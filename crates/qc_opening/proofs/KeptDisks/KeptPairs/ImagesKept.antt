@@ -4,7 +4,7 @@ use Rattle.std.proofs.Common.{◌≡◌, ◌⊎◌, ℕ, zero, suc, ◌+◌, ◌
 use Rattle.std.proofs.Math.Logic.{∥∥₁_elim, ∥∥₁_map, ∥∥₁_prop}
 use Rattle.std.specs.Prelude.{◌↔◌, if◌then◌else◌, All, Option, Some, is_some, slice_get}
 use Rattle.qc_codec.specs.Fields as field
-use Rattle.qc_codec.specs.Fields.{format_1}
+use Rattle.qc_codec.specs.Fields.{current}
 use Rattle.qc_config.specs.declared.tuple.Tuple.{Tuple}
 use Rattle.qc_disk.specs.Disk.{DiskView as Disk}
 use Rattle.qc_event.specs.declared.table.Table.{Table}
@@ -122,7 +122,7 @@ module _ {D : Type 0} (view : D → Disk) (table : Table) (told : ℕ → Option
 
     -- it has what a fold leaves that was finished
     abbrev HasFolded : ℕ → Type 0
-    HasFolded pair = (numbers pair < 2 ^ 63) × All (field.tuple (format_1 (length base))).fits (held_at setting pair past)
+    HasFolded pair = (numbers pair < 2 ^ 63) × All (field.tuple (current (length base))).fits (held_at setting pair past)
         × HasRecords (made_other table m.swapped pair ∷ base_in setting found pair (held_at setting pair past) ∷ []) (other pair)
 
     -- or no such fold was
@@ -158,7 +158,7 @@ module _ {D : Type 0} (view : D → Disk) (table : Table) (told : ℕ → Option
 
     module _ (are : AreOthers m others) (now : (disk : D) (c : List ℕ) → (view disk).left_at (view disk).moment c ↔ (view disk).may_leave c) where
       -- what was found, or what a fold leaves
-      by_fold : (pair : ℕ) → HasEnded past → (numbers pair < 2 ^ 63) → All (field.tuple (format_1 (length base))).fits (held_at setting pair past)
+      by_fold : (pair : ℕ) → HasEnded past → (numbers pair < 2 ^ 63) → All (field.tuple (current (length base))).fits (held_at setting pair past)
           → IsFolding (others pair) (made_other table m.swapped pair) (base_in setting found pair (held_at setting pair past)) (other pair) → HasLeft pair
       by_fold pair ended low fit (inl has) = inl (inl has)
       by_fold pair ended low fit (inr (inl has)) = inl (inr (inl has))

@@ -7,6 +7,7 @@ use Rattle.qc_codec.specs.Bodies as body
 use Rattle.qc_codec.specs.Copy.{grant_form}
 use Rattle.qc_codec.specs.Ledger.{made_for}
 use Rattle.qc_codec.proofs.Fits.{made_proper, table_sized}
+use Rattle.qc_codec.specs.Fields.{current_format}
 use Rattle.qc_config.specs.declared.tuple.Tuple.{Tuple}
 use Rattle.qc_event.specs.declared.table.Table.{Table}
 use Rattle.qc_event.specs.History.{Past, limit}
@@ -22,7 +23,7 @@ use Rattle.qc_opening.proofs.KeptDisks.KeptPairs.ActiveDisks.{HasActive, active_
 use Rattle.qc_opening.proofs.KeptDisks.KeptPairs.FoldedDisks.{next_active, number_behind, still_active}
 use Rattle.qc_opening.proofs.KeptDisks.KeptPairs.WrittenBodies.{mounted_copy_base, mounted_ledger_base}
 use Rattle.qc_opening.proofs.KeptDisks.Stands as disks
-use Rattle.qc_pair.specs.Front.{base_form, number_in}
+use Rattle.qc_pair.specs.Front.{base_form, current_base, number_in}
 use Rattle.qc_pair.specs.Opening.{HaveActive}
 use Rattle.qc_pair.specs.Pair.{number_at}
 use Rattle.qc_pair.specs.declared.kind.Kind.{Kind}
@@ -73,15 +74,15 @@ module _ (table : Table) (told : ℕ → Option (List ℕ)) (records : ℕ → L
 
       made_fits : body.made.fits (made_for (number_at (not (m.swapped pair)) pair) table)
       made_fits =
-          let few = (table_sized 1 table m.mounted.proper).copies in
+          let few = (table_sized current_format table m.mounted.proper).copies in
           made_proper (number_at (not (m.swapped pair)) pair) table (byte_number (not (m.swapped pair)) pair (omega (arith, there, few))) m.mounted.proper
 
       -- where it was folded the other image is
       folded_active : (Tells : ℕ → List (List ℕ) → Type 0) (tuples : List Tuple) → IsFolded form table found epoch tuples (other_made m past images pair) (other_image m past images pair)
-          → Tells (number_at (not (m.swapped pair)) pair) (other_made m past images pair ∷ (base_form form table).spell (next_base form found epoch tuples) ∷ [])
+          → Tells (number_at (not (m.swapped pair)) pair) (other_made m past images pair ∷ (current_base form table).spell (next_base form found epoch tuples) ∷ [])
           → TellsPair (base_form form) pair Tells (image_of table images pair) (spare_image table images pair)
       folded_active Tells tuples folded t = next_active form pair Tells (image_of table images pair) (spare_image table images pair) (m.swapped pair)
-          (other_made m past images pair ∷ (base_form form table).spell (next_base form found epoch tuples) ∷ []) same.0
+          (other_made m past images pair ∷ (current_base form table).spell (next_base form found epoch tuples) ∷ []) same.0
           (number_behind form table (number_at (not (m.swapped pair)) pair) (next_base form found epoch tuples) made_fits folded.fits ∙ ap (λ n. n + 1) (sym same.2))
           folded.has active_has t
 

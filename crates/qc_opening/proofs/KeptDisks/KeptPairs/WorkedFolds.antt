@@ -14,7 +14,7 @@ use Rattle.qc_opening.specs.Pairs.{AreLeftByFolds, IsCopyFolded, IsFolded, next_
 use Rattle.qc_opening.proofs.KeptDisks.KeptPairs.PairsStand.{stand}
 use Rattle.qc_opening.proofs.KeptDisks.KeptPairs.WorkedPairs.{no_record, pairs_mounted}
 use Rattle.qc_opening.proofs.KeptDisks.Worked.{images, kept, mounted, records}
-use Rattle.qc_pair.specs.Front.{base_form}
+use Rattle.qc_pair.specs.Front.{current_base}
 use Rattle.qc_pair.specs.declared.kind.Kind.{Kind}
 use Rattle.qc_pair.specs.declared.kind.Kind.TheVariants as kind
 use Rattle.qc_refine.specs.Folded.{seen_row}
@@ -27,33 +27,33 @@ held = seen_row (setting_of table (base_of table)) [] 0
 
 -- into a disk the pair was folded
 abbrev folded_bodies : Kind → ℕ → List Tuple → List (List ℕ)
-folded_bodies form disk tuples = made disk ∷ (base_form form table).spell (next_base form [] 1 tuples) ∷ []
+folded_bodies form disk tuples = made disk ∷ (current_base form table).spell (next_base form [] 1 tuples) ∷ []
 
 abbrev folded_images : List (List ℕ)
 folded_images = get_or images 0 [] ∷ get_or images 1 [] ∷ image (folded_bodies kind.Ledger 17 []) ∷ image (folded_bodies kind.Copy 18 held) ∷ []
 
 -- THE BASES
 
-ledger_short : length ((base_form kind.Ledger table).spell (next_base kind.Ledger [] 1 [])) ≡ 13
+ledger_short : length ((current_base kind.Ledger table).spell (next_base kind.Ledger [] 1 [])) ≡ 13
 unfolding body.base body.folded long word
 ledger_short = refl
 
-copy_short : length ((base_form kind.Copy table).spell (next_base kind.Copy [] 1 held)) ≡ 43
+copy_short : length ((current_base kind.Copy table).spell (next_base kind.Copy [] 1 held)) ≡ 43
 unfolding body.base body.folded tuple config datum number_datum half long word
 copy_short = refl
 
-ledger_fits : (base_form kind.Ledger table).fits (next_base kind.Ledger [] 1 [])
+ledger_fits : (current_base kind.Ledger table).fits (next_base kind.Ledger [] 1 [])
 unfolding body.base body.folded long word
 ledger_fits = search rules
 
-copy_fits : (base_form kind.Copy table).fits (next_base kind.Copy [] 1 held)
+copy_fits : (current_base kind.Copy table).fits (next_base kind.Copy [] 1 held)
 unfolding body.base body.folded tuple config datum number_datum half long word
 copy_fits = search rules
 
 -- THE IMAGES
 
 -- on an empty disk nothing was found
-folded : (form : Kind) (disk : ℕ) (tuples : List Tuple) (found : List (List ℕ)) → HasRecords found [] → (base_form form table).fits (next_base form [] 1 tuples) → length ((base_form form table).spell (next_base form [] 1 tuples)) < 100
+folded : (form : Kind) (disk : ℕ) (tuples : List Tuple) (found : List (List ℕ)) → HasRecords found [] → (current_base form table).fits (next_base form [] 1 tuples) → length ((current_base form table).spell (next_base form [] 1 tuples)) < 100
     → IsFolded form table found 1 tuples (made disk) (image (folded_bodies form disk tuples))
 folded form disk tuples found none fits short =
     subst (λ (bodies : List (List ℕ)). IsFolded form table bodies 1 tuples (made disk) (image (folded_bodies form disk tuples))) (sym (records-same [] [] found no_record none))
@@ -61,8 +61,8 @@ folded form disk tuples found none fits short =
   where
     both_short : All IsShort (folded_bodies form disk tuples)
     both_short =
-        All-cons IsShort (made disk) ((base_form form table).spell (next_base form [] 1 tuples) ∷ []) (omega (arith, made_short disk))
-        (All-cons IsShort ((base_form form table).spell (next_base form [] 1 tuples)) [] (omega (arith, short)) (All-nil IsShort))
+        All-cons IsShort (made disk) ((current_base form table).spell (next_base form [] 1 tuples) ∷ []) (omega (arith, made_short disk))
+        (All-cons IsShort ((current_base form table).spell (next_base form [] 1 tuples)) [] (omega (arith, short)) (All-nil IsShort))
 
 pairs_folded : AreLeftByFolds pairs_mounted [] folded_images
 pairs_folded = record {

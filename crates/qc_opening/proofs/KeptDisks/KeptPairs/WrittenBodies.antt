@@ -23,9 +23,9 @@ use Rattle.qc_site.specs.Image as grants
 epoch_no_base : (first : List ℕ) (epoch : ℕ) → base_in ledger_base (first ∷ tops.epoch_body epoch ∷ []) ≡ None
 epoch_no_base first epoch = none (all_of body.made first)
   where
-    none : (made : Option Made) → option_and_then (λ (m : Made). all_of (ledger_base m.table) (tops.epoch_body epoch)) made ≡ None
+    none : (made : Option Made) → option_and_then (λ (m : Made). all_of (ledger_base m) (tops.epoch_body epoch)) made ≡ None
     none None = refl
-    none (Some m) = record_no_base m.table (Epoch epoch)
+    none (Some m) = record_no_base m (Epoch epoch)
 
 -- some first ones of what a mounting writes behind bodies are no base
 pub same_ledger_base : (disk : ℕ) (table : Table) (found first rest : List (List ℕ)) → tops.to_write disk table found ≡ first ++ rest → base_in ledger_base (found ++ first) ≡ base_in ledger_base found

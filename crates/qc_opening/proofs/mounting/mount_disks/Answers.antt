@@ -1,6 +1,7 @@
 -- All pairs wait, in their order.
 use Rattle.std.proofs.Common.{◌≡◌, ℕ, ◌+◌, List, length, subst, sym, arith, ◌∙◌}
 use Rattle.qc_codec.proofs.Fits.{table_sized}
+use Rattle.qc_codec.specs.Fields.{current_format}
 use Rattle.qc_opening.specs.Disks.{IsPairLeft}
 use Rattle.qc_opening.specs.Images.{images_in_pairs, IsFirstFault, IsFirstInPairs}
 use Rattle.qc_opening.specs.Refusing.{disks_in, AreLeft, FailedAt, IsBehind, IsReasonAmong, TellImages, TellInPairs}
@@ -38,7 +39,7 @@ into_disks-requires g c =
     (omega (arith, size, room.0), omega (arith, size, room.1))
 
 pub mount_all-requires-clause-few : goal.mount_all-requires-clause-few
-mount_all-requires-clause-few g c = (table_sized 1 c.args.table.now c.requires.proper).copies
+mount_all-requires-clause-few g c = (table_sized current_format c.args.table.now c.requires.proper).copies
 
 pub returns-in_default-clause-left : goal.returns-in_default-clause-left
 returns-in_default-clause-left g c = unreached g.D.Disk.view g.met.D.Disk.leaves_now c.args.table.now Memory c.args.disks.items (λ n low failed. failed)

@@ -1,6 +1,7 @@
 -- The disks in places of their own are mounted as they are themselves.
 use Rattle.std.proofs.Common.{ℕ, ◌≡◌, List, map, length, refl, rules, sym, subst, arith, ◌∙◌}
 use Rattle.qc_codec.specs.Bodies as body
+use Rattle.qc_codec.specs.Fields.{current_format}
 use Rattle.qc_codec.specs.declared.image.BadImage.{BadImage}
 use Rattle.qc_opening.specs.Disks.{all_places, told_by}
 use Rattle.qc_opening.specs.Images.{IsFirstFault}
@@ -32,7 +33,7 @@ run_mounted-requires g c κs within =
     let boxed = c.in-Ok.boxed.items in
     let disks = c.args.disks.items in
     let proper : IsProper (plan_of_script c.args.script.now) = search rules in
-    let spelled : (body.table 1).fits table = search rules in
+    let spelled : (body.table current_format).fits table = search rules in
     let all : length disks ≡ all_places table.copies = search rules in
     let given : disks ≡ g.given = search rules in
     let view = g.D.Disk.view in

@@ -1,6 +1,7 @@
 -- The system is made of what was found on the disks.
 use Rattle.std.proofs.Common.{◌≡◌, rules, ap, arith, length, map, ◌∙◌}
 use Rattle.qc_codec.specs.Bodies as body
+use Rattle.qc_codec.specs.Fields.{current_format}
 use Rattle.qc_script.specs.Reading.{IsProper}
 use Rattle.qc_script.specs.Steps.{plan_of_script}
 use Rattle.qc_site.specs.Start.{start_of}
@@ -27,7 +28,7 @@ run_named-ended-requires-clause-setting g c κs within =
     let table = c.args.script.now.table in
     let parts = c.args.parts in
     let proper : IsProper (plan_of_script c.args.script.now) = search rules in
-    let spelled : (body.table 1).fits table = search rules in
+    let spelled : (body.table current_format).fits table = search rules in
     let store : IsStoreOver table told counts parts = search rules in
     let all : length parts.copies.items ≡ table.copies = search rules in
     let rows = c.in-Ok.ensures.base ∙ ap (map (λ pair. start_of pair.copy)) c.as_slice-2.ensures.value in
@@ -60,7 +61,7 @@ returns-in-Ok-clause-ran g c =
     let counts = map (λ disk. (g.D.Disk.view disk).faults) g.given in
     let table = c.args.script.now.table in
     let parts = c.args.parts in
-    let spelled : (body.table 1).fits table = search rules in
+    let spelled : (body.table current_format).fits table = search rules in
     let store : IsStoreOver table told counts parts = search rules in
     let all : length parts.copies.items ≡ table.copies = search rules in
     let rows = c.in-Ok.ensures.base ∙ ap (map (λ pair. start_of pair.copy)) c.as_slice-2.ensures.value in

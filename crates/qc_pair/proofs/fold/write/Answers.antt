@@ -2,12 +2,12 @@
 use Rattle.std.proofs.Common.{List, arith, subst, sym}
 use Rattle.std.specs.List.{All}
 use Rattle.qc_config.specs.declared.tuple.Tuple.{Tuple}
-use Rattle.qc_codec.specs.Fields.{format_1, tuple}
+use Rattle.qc_codec.specs.Fields.{current, tuple}
 use Rattle.qc_pair.proofs.Bases.{base_fits}
 use Rattle.qc_pair.proofs.fold.write.Goals as goal
 
 pub write_base-requires-clause-proper : goal.write_base-requires-clause-proper
 write_base-requires-clause-proper c =
-    base_fits (format_1 c.args.copies) (record { number = c.args.number; epoch = c.args.epoch; tuples = c.new.result })
+    base_fits (current c.args.copies) (record { number = c.args.number; epoch = c.args.epoch; tuples = c.new.result })
     c.requires.counted c.requires.last c.requires.begun (omega arith)
-    (subst (λ (tuples : List Tuple). All (tuple (format_1 c.args.copies)).fits tuples) (sym c.new.ensures) c.requires.fit)
+    (subst (λ (tuples : List Tuple). All (tuple (current c.args.copies)).fits tuples) (sym c.new.ensures) c.requires.fit)

@@ -46,7 +46,7 @@ returns-in-Ok-begin-clause-mounts g c =
     let one = c.in-Ok-begin.ensures in
     let fold = c.into_fold-journal.ensures in
     copy_mounted c.args.copy table past c.args.limit (g.D.Disk.view c.args.disk).content (g.D.Disk.view c.args.spare).content c.in_ok-pair.pair c.into_fold-journal.result.1 _ disk found c.in_ok-pair.ensures.opens
-    fold.other fold.number fold.swapped c.active_disk-active.ensures one.granted
+    fold.other fold.number fold.swapped c.active_disk-active.ensures one.now one.granted
     (λ keeps. subst (λ n. AreMountableAsCopy disk table past n found) c.in_ok-pair.ensures.limit.0 (one.fine keeps))
     one.bodies (λ keeps. subst (λ j. Keeps j (bodies_of c.begin.new.bodies.items)) (sym fold.active) (one.keeps keeps))
 

@@ -3,7 +3,7 @@ use Rattle.std.specs.Prelude.{flat_map, slice_index_or}
 use Rattle.std.specs.List.{All}
 use Rattle.qc_config.specs.declared.tuple.Tuple.{Tuple}
 use Rattle.qc_codec.specs.Fields as field
-use Rattle.qc_codec.specs.Fields.{format_1}
+use Rattle.qc_codec.specs.Fields.{current}
 use Rattle.qc_trail_codec.proofs.InARow.{one_more_written, one_more_fits}
 use Rattle.qc_trail_codec.proofs.base.put_base.Goals as goal
 
@@ -11,7 +11,7 @@ pub loop-copy-preserved : goal.loop-copy-preserved
 loop-copy-preserved c =
     let base = c.args.base.now in
     let row = c.row-in-loop-copy.result.now in
-    let form = field.tuple (format_1 c.copies-copies.result) in
+    let form = field.tuple (current c.copies-copies.result) in
     let front = c.copies-copies.result ∷ length (slice_index_or base 0 []) ∷ [] in
     let lt : c.loop-copy.copy < length base = omega (arith, c.loop-copy-test.true, c.copies-copies.ensures) in
     let none : List Tuple = [] in

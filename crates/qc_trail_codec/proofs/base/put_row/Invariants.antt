@@ -2,11 +2,11 @@ use Rattle.std.proofs.Common.{◌≡◌, ◌++◌, take}
 use Rattle.std.specs.Prelude.{flat_map}
 use Rattle.std.specs.List.{All}
 use Rattle.qc_codec.specs.Fields as field
-use Rattle.qc_codec.specs.Fields.{format_1}
+use Rattle.qc_codec.specs.Fields.{current}
 use Rattle.qc_trail_codec.proofs.base.put_row.Given as goal
 
 abbrev pub invariant-loop-tuple : goal.invariant-loop-tuple
 invariant-loop-tuple l = record {
-  written : l.out.items ≡ l.fn.out.items ++ flat_map (field.tuple (format_1 l.copies)).spell (take l.tuple-index l.row);
-  fits : All (field.tuple (format_1 l.copies)).fits (take l.tuple-index l.row);
+  written : l.out.items ≡ l.fn.out.items ++ flat_map (field.tuple (current l.copies)).spell (take l.tuple-index l.row);
+  fits : All (field.tuple (current l.copies)).fits (take l.tuple-index l.row);
 }

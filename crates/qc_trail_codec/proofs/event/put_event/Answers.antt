@@ -1,5 +1,5 @@
 use Rattle.std.proofs.Common.{sym, subst}
-use Rattle.qc_codec.specs.Fields.{format_1}
+use Rattle.qc_codec.specs.Fields.{current}
 use Rattle.qc_codec.proofs.Puts.{if_ok}
 use Rattle.qc_trail_codec.specs.Events as events
 use Rattle.qc_trail_codec.specs.Saving.{CanEventBeSaved}
@@ -10,4 +10,4 @@ pub returns-in_ok-put_name-in-Unable-clause-fits : goal.returns-in_ok-put_name-i
 returns-in_ok-put_name-in-Unable-clause-fits c =
     let can = subst (CanEventBeSaved c.args.copies) c.in-Unable.is c.requires.can in
     if_ok c.put_why.result
-    (subst (events.event (format_1 c.args.copies)).fits (sym c.in-Unable.is) (unable_fits (format_1 c.args.copies) c.in-Unable.name c.in-Unable.why (c.in_ok-put_name-in-Unable.ensures.fits can.0) can.1))
+    (subst (events.event (current c.args.copies)).fits (sym c.in-Unable.is) (unable_fits (current c.args.copies) c.in-Unable.name c.in-Unable.why (c.in_ok-put_name-in-Unable.ensures.fits can.0) can.1))

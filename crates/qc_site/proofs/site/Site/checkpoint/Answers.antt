@@ -1,7 +1,7 @@
 use Rattle.std.proofs.Common.{inl, inr, ℕ, List, refl, arith, subst}
 use Rattle.std.specs.Prelude.{All, OnOk, length}
 use Rattle.qc_codec.specs.Fields as field
-use Rattle.qc_codec.specs.Fields.{format_1}
+use Rattle.qc_codec.specs.Fields.{current}
 use Rattle.qc_config.specs.declared.tuple.Tuple.{Tuple}
 use Rattle.qc_disk.specs.Disk.{LeavesOnly}
 use Rattle.qc_journal.specs.Journal.{disk_of, Keeps}
@@ -39,10 +39,10 @@ returns-in_err-held-clause-fits g c = inl refl
 -- WHERE IT IS
 
 pub returns-clause-fits : goal.returns-clause-fits
-returns-clause-fits g c = inr (subst (λ (ts : List Tuple). All (field.tuple (format_1 (length g.N.Store.base))).fits ts) c.in_ok-held.ensures.held c.fold_in.ensures.fits)
+returns-clause-fits g c = inr (subst (λ (ts : List Tuple). All (field.tuple (current (length g.N.Store.base))).fits ts) c.in_ok-held.ensures.held c.fold_in.ensures.fits)
 
 pub returns-clause-fit : goal.returns-clause-fit
-returns-clause-fit g c = on_ok c.fold_in.result (subst (λ (ts : List Tuple). All (field.tuple (format_1 (length g.N.Store.base))).fits ts) c.in_ok-held.ensures.held c.fold_in.ensures.fits)
+returns-clause-fit g c = on_ok c.fold_in.result (subst (λ (ts : List Tuple). All (field.tuple (current (length g.N.Store.base))).fits ts) c.in_ok-held.ensures.held c.fold_in.ensures.fits)
 
 pub returns-clause-keeps : goal.returns-clause-keeps
 returns-clause-keeps g c =

@@ -3,14 +3,14 @@ use Rattle.std.specs.Prelude.{Err}
 use Rattle.std.specs.List.{All}
 use Rattle.qc_config.specs.declared.tuple.Tuple.{Tuple}
 use Rattle.qc_codec.specs.Fields as field
-use Rattle.qc_codec.specs.Fields.{format_1}
+use Rattle.qc_codec.specs.Fields.{current}
 use Rattle.qc_site.proofs.Checkpoints.{disk_fold, fold_disk, fold_refuses}
 use Rattle.qc_site.proofs.site.Site.fold_in.Goals as goal
 
 pub fold-requires-clause-fit : goal.fold-requires-clause-fit
 fold-requires-clause-fit g c =
-    subst (λ n. All (field.tuple (format_1 n)).fits c.args.held.items) (sym c.requires.copies)
-    (subst (λ (ts : List Tuple). All (field.tuple (format_1 (length g.N.Store.base))).fits ts) c.deref.ensures.value c.held_fits.ensures.fits)
+    subst (λ n. All (field.tuple (current n)).fits c.args.held.items) (sym c.requires.copies)
+    (subst (λ (ts : List Tuple). All (field.tuple (current (length g.N.Store.base))).fits ts) c.deref.ensures.value c.held_fits.ensures.fits)
 
 pub returns-in-Ok-clause-counts_once : goal.returns-in-Ok-clause-counts_once
 returns-in-Ok-clause-counts_once g c = record { once = c.in-Ok.ensures.counts_once.once; spared = λ never. c.in-Ok.ensures.counts_once.spared (λ failed. absurd cc) }
