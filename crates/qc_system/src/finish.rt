@@ -18,6 +18,7 @@ ghost use Rattle.qc_system.specs.Parts.{AreKeptBack, IsClosing, IsOther, IsThere
 
 use crate::boxed::Boxed;
 use crate::folding::Folding;
+use crate::four::Four;
 use crate::held::Held;
 use crate::held_ledger::HeldLedger;
 use crate::mounting::Mounting;
@@ -111,15 +112,12 @@ fn leave_at<D: Disk + Drop, N: Mounting, const C: u8, R: Wait>(
     folds: &mut Vec<Fold<Boxed<D>>>,
     folding: &mut Folding<N>,
     returns: &mut Returns<D>,
-    all: u8,
 )
     requires low { C < 16 }
-    requires whole { all ≡ length N.base }
-    requires few { all ≤ 16 }
     requires proper { IsProper (setting_of N.table N.base) }
     requires first { IsClosing first.old }
     requires since { IsOlder folding.old.since.seen first.old.seen }
-    requires there { IsThere C all (is_some site) }
+    requires there { IsThere C (length N.base) (is_some site) }
     requires others { AreKeptBack (length N.base) N.found C folds.old.items }
     requires left { HaveLeft (setting_of N.table N.base) N.found D.view folding.old.since.seen C
         folding.old.whole folding.old.wanting (pairs_in returns.old) first.old }
@@ -140,6 +138,48 @@ fn leave_at<D: Disk + Drop, N: Mounting, const C: u8, R: Wait>(
         desk.join(rt, first, pass);
         returns.put(disk, spare);
     }
+}
+
+// So do four copies' sites, one behind another.
+fn leave_four<
+    D: Disk + Drop,
+    N: Mounting,
+    const C0: u8,
+    const C1: u8,
+    const C2: u8,
+    const C3: u8,
+    R: Wait,
+>(
+    rt: &R,
+    desk: &Desk<N>,
+    first: &mut Pass<N>,
+    four: Four<D, N, C0, C1, C2, C3>,
+    folds: &mut Vec<Fold<Boxed<D>>>,
+    folding: &mut Folding<N>,
+    returns: &mut Returns<D>,
+)
+    requires next { (C1 ≡ C0 + 1) × (C2 ≡ C0 + 2) × (C3 ≡ C0 + 3) }
+    requires low { C0 < 13 }
+    requires proper { IsProper (setting_of N.table N.base) }
+    requires first { IsClosing first.old }
+    requires since { IsOlder folding.old.since.seen first.old.seen }
+    requires others { AreKeptBack (length N.base) N.found C0 folds.old.items }
+    requires left { HaveLeft (setting_of N.table N.base) N.found D.view folding.old.since.seen C0
+        folding.old.whole folding.old.wanting (pairs_in returns.old) first.old }
+    ensures first { IsClosing first.new }
+    ensures seen { IsOlder first.old.seen first.new.seen }
+    ensures low { JoinsLow first.old first.new }
+    ensures others { AreKeptBack (length N.base) N.found (C0 + 4) folds.new.items }
+    ensures since { folding.new.since ≡ folding.old.since }
+    ensures later { IsOlder folding.new.since.seen first.new.seen }
+    ensures left { HaveLeft (setting_of N.table N.base) N.found D.view folding.new.since.seen
+        (C0 + 4) folding.new.whole folding.new.wanting (pairs_in returns.new) first.new }
+{
+    let Four { s0, s1, s2, s3 } = four;
+    leave_at(rt, desk, first, s0, folds, folding, returns);
+    leave_at(rt, desk, first, s1, folds, folding, returns);
+    leave_at(rt, desk, first, s2, folds, folding, returns);
+    leave_at(rt, desk, first, s3, folds, folding, returns);
 }
 
 // The ledger is folded, where each copy was, and gives its pass and its disks back.
@@ -172,13 +212,6 @@ fn leave_last<D: Disk + Drop, N: Mounting, R: Wait>(
     returns.put_first(disk, spare);
 }
 
-// Each copy's statement.
-macro_rules! leave_all {
-    ($rt:expr, $desk:expr, $first:expr, $folds:expr, $folding:expr, $returns:expr, $all:expr; $($s:ident)*) => {
-        $(leave_at($rt, $desk, $first, $s, $folds, $folding, $returns, $all);)*
-    };
-}
-
 impl<D: Disk + Drop, N: Mounting> System<D, N> {
     /// The start tuples, the history, the oldest entry first, and the disks, the ledger's first, and behind them the spares:
     /// what each active one keeps is what was found on it, and then what the history tells. Each entry of a client is the
@@ -206,23 +239,11 @@ impl<D: Disk + Drop, N: Mounting> System<D, N> {
         let System {
             desk,
             ledger,
-            copies,
-            s0,
-            s1,
-            s2,
-            s3,
-            s4,
-            s5,
-            s6,
-            s7,
-            s8,
-            s9,
-            s10,
-            s11,
-            s12,
-            s13,
-            s14,
-            s15,
+            from0,
+            from4,
+            from8,
+            from12,
+            ..
         } = self;
         let Others {
             mut folds,
@@ -232,7 +253,42 @@ impl<D: Disk + Drop, N: Mounting> System<D, N> {
         let mut ledger = ledger.into_inner();
         let fold = folds.remove(0);
         let mut folding = ledger.begin(rt, &desk, &mut first);
-        leave_all!(rt, &desk, &mut first, &mut folds, &mut folding, &mut returns, copies; s0 s1 s2 s3 s4 s5 s6 s7 s8 s9 s10 s11 s12 s13 s14 s15);
+        leave_four(
+            rt,
+            &desk,
+            &mut first,
+            from0,
+            &mut folds,
+            &mut folding,
+            &mut returns,
+        );
+        leave_four(
+            rt,
+            &desk,
+            &mut first,
+            from4,
+            &mut folds,
+            &mut folding,
+            &mut returns,
+        );
+        leave_four(
+            rt,
+            &desk,
+            &mut first,
+            from8,
+            &mut folds,
+            &mut folding,
+            &mut returns,
+        );
+        leave_four(
+            rt,
+            &desk,
+            &mut first,
+            from12,
+            &mut folds,
+            &mut folding,
+            &mut returns,
+        );
         leave_last(
             rt,
             &desk,

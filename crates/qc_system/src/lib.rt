@@ -4,6 +4,7 @@
 mod boxed;
 mod finish;
 mod folding;
+mod four;
 mod held;
 mod held_ledger;
 mod mounting;

@@ -6,6 +6,7 @@ ghost use Rattle.qc_system.specs.Pairs.{pairs_in};
 ghost use Rattle.qc_system.specs.Parts.{AreMounted, AreWaiting, HaveEntered, IsLedger, IsOpening, IsThere, AreBeside};
 
 use crate::boxed::Boxed;
+use crate::four::Four;
 use crate::held::Held;
 use crate::held_ledger::HeldLedger;
 use crate::mounting::Mounting;
@@ -24,10 +25,8 @@ fn enter_at<D: Disk + Drop, N: Mounting, const C: u8, R: Wait>(
     first: &mut Pass<N>,
     copies: &mut Vec<CopyPair<Boxed<D>>>,
     folds: &mut Vec<Fold<Boxed<D>>>,
-    all: u8,
 ) -> Option<Mutex<Held<D, N, C>>>
     requires low { C < 16 }
-    requires whole { all ≡ length N.base }
     requires first { IsOpening first.old (C + 1) }
     requires waiting { AreWaiting N.base N.found C copies.old.items }
     requires entered { HaveEntered N.base N.found C folds.old.items }
@@ -36,7 +35,7 @@ fn enter_at<D: Disk + Drop, N: Mounting, const C: u8, R: Wait>(
     ensures waiting { AreWaiting N.base N.found (C + 1) copies.new.items }
     ensures entered { HaveEntered N.base N.found (C + 1) folds.new.items }
     ensures room { length N.base + 1 ≤ vec_capacity folds.new }
-    ensures there { IsThere C all (is_some result) }
+    ensures there { IsThere C (length N.base) (is_some result) }
 {
     let pass = desk.split(rt, first);
     if copies.is_empty() {
@@ -62,16 +61,9 @@ fn enter_four<
     first: &mut Pass<N>,
     copies: &mut Vec<CopyPair<Boxed<D>>>,
     folds: &mut Vec<Fold<Boxed<D>>>,
-    all: u8,
-) -> (
-    Option<Mutex<Held<D, N, C0>>>,
-    Option<Mutex<Held<D, N, C1>>>,
-    Option<Mutex<Held<D, N, C2>>>,
-    Option<Mutex<Held<D, N, C3>>>,
-)
+) -> Four<D, N, C0, C1, C2, C3>
     requires next { (C1 ≡ C0 + 1) × (C2 ≡ C0 + 2) × (C3 ≡ C0 + 3) }
     requires low { C0 < 13 }
-    requires whole { all ≡ length N.base }
     requires first { IsOpening first.old (C0 + 1) }
     requires waiting { AreWaiting N.base N.found C0 copies.old.items }
     requires entered { HaveEntered N.base N.found C0 folds.old.items }
@@ -80,14 +72,12 @@ fn enter_four<
     ensures waiting { AreWaiting N.base N.found (C0 + 4) copies.new.items }
     ensures entered { HaveEntered N.base N.found (C0 + 4) folds.new.items }
     ensures room { length N.base + 1 ≤ vec_capacity folds.new }
-    ensures there { IsThere C0 all (is_some result.0) × IsThere C1 all (is_some result.1)
-        × IsThere C2 all (is_some result.2) × IsThere C3 all (is_some result.3) }
 {
-    let s0 = enter_at(rt, desk, first, copies, folds, all);
-    let s1 = enter_at(rt, desk, first, copies, folds, all);
-    let s2 = enter_at(rt, desk, first, copies, folds, all);
-    let s3 = enter_at(rt, desk, first, copies, folds, all);
-    (s0, s1, s2, s3)
+    let s0 = enter_at(rt, desk, first, copies, folds);
+    let s1 = enter_at(rt, desk, first, copies, folds);
+    let s2 = enter_at(rt, desk, first, copies, folds);
+    let s3 = enter_at(rt, desk, first, copies, folds);
+    Four { s0, s1, s2, s3 }
 }
 
 impl<D: Disk + Drop, N: Mounting> System<D, N> {
@@ -117,31 +107,19 @@ impl<D: Disk + Drop, N: Mounting> System<D, N> {
         let pass = desk.split(rt, &mut first);
         folds.push_reserved(ledger.fold);
         let ledger = Mutex::new(HeldLedger::new(ledger.book, pass));
-        let (s0, s1, s2, s3) = enter_four(rt, &desk, &mut first, &mut copies, &mut folds, all);
-        let (s4, s5, s6, s7) = enter_four(rt, &desk, &mut first, &mut copies, &mut folds, all);
-        let (s8, s9, s10, s11) = enter_four(rt, &desk, &mut first, &mut copies, &mut folds, all);
-        let (s12, s13, s14, s15) = enter_four(rt, &desk, &mut first, &mut copies, &mut folds, all);
+        let from0 = enter_four(rt, &desk, &mut first, &mut copies, &mut folds);
+        let from4 = enter_four(rt, &desk, &mut first, &mut copies, &mut folds);
+        let from8 = enter_four(rt, &desk, &mut first, &mut copies, &mut folds);
+        let from12 = enter_four(rt, &desk, &mut first, &mut copies, &mut folds);
         (
             System {
                 desk,
                 ledger,
                 copies: all,
-                s0,
-                s1,
-                s2,
-                s3,
-                s4,
-                s5,
-                s6,
-                s7,
-                s8,
-                s9,
-                s10,
-                s11,
-                s12,
-                s13,
-                s14,
-                s15,
+                from0,
+                from4,
+                from8,
+                from12,
             },
             Others { folds, returns },
             first,

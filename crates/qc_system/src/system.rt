@@ -12,9 +12,9 @@ ghost use Rattle.qc_desk.specs.Consulting.{HasAsked};
 ghost use Rattle.qc_desk.specs.Known.{IsKnown};
 ghost use Rattle.qc_desk.specs.Answers.{HasAnswered};
 ghost use Rattle.qc_system.specs.Kept.{HasRefused};
-ghost use Rattle.qc_system.specs.Parts.{IsThere};
 
 use crate::boxed::Boxed;
+use crate::four::Four;
 use crate::held::Held;
 use crate::held_ledger::HeldLedger;
 use crate::mounting::Mounting;
@@ -34,50 +34,21 @@ where
     pub(crate) desk: Desk<N>,
     pub(crate) ledger: Mutex<HeldLedger<D, N>>,
     pub(crate) copies: u8,
-    pub(crate) s0: Option<Mutex<Held<D, N, 0>>>,
-    pub(crate) s1: Option<Mutex<Held<D, N, 1>>>,
-    pub(crate) s2: Option<Mutex<Held<D, N, 2>>>,
-    pub(crate) s3: Option<Mutex<Held<D, N, 3>>>,
-    pub(crate) s4: Option<Mutex<Held<D, N, 4>>>,
-    pub(crate) s5: Option<Mutex<Held<D, N, 5>>>,
-    pub(crate) s6: Option<Mutex<Held<D, N, 6>>>,
-    pub(crate) s7: Option<Mutex<Held<D, N, 7>>>,
-    pub(crate) s8: Option<Mutex<Held<D, N, 8>>>,
-    pub(crate) s9: Option<Mutex<Held<D, N, 9>>>,
-    pub(crate) s10: Option<Mutex<Held<D, N, 10>>>,
-    pub(crate) s11: Option<Mutex<Held<D, N, 11>>>,
-    pub(crate) s12: Option<Mutex<Held<D, N, 12>>>,
-    pub(crate) s13: Option<Mutex<Held<D, N, 13>>>,
-    pub(crate) s14: Option<Mutex<Held<D, N, 14>>>,
-    pub(crate) s15: Option<Mutex<Held<D, N, 15>>>,
+    pub(crate) from0: Four<D, N, 0, 1, 2, 3>,
+    pub(crate) from4: Four<D, N, 4, 5, 6, 7>,
+    pub(crate) from8: Four<D, N, 8, 9, 10, 11>,
+    pub(crate) from12: Four<D, N, 12, 13, 14, 15>,
     ghost few: { copies ≤ 16 },
     ghost whole: { copies ≡ length N.base },
     ghost proper: { IsProper (setting_of N.table N.base) },
-
-    ghost there0: { IsThere 0 copies (is_some s0) },
-    ghost there1: { IsThere 1 copies (is_some s1) },
-    ghost there2: { IsThere 2 copies (is_some s2) },
-    ghost there3: { IsThere 3 copies (is_some s3) },
-    ghost there4: { IsThere 4 copies (is_some s4) },
-    ghost there5: { IsThere 5 copies (is_some s5) },
-    ghost there6: { IsThere 6 copies (is_some s6) },
-    ghost there7: { IsThere 7 copies (is_some s7) },
-    ghost there8: { IsThere 8 copies (is_some s8) },
-    ghost there9: { IsThere 9 copies (is_some s9) },
-    ghost there10: { IsThere 10 copies (is_some s10) },
-    ghost there11: { IsThere 11 copies (is_some s11) },
-    ghost there12: { IsThere 12 copies (is_some s12) },
-    ghost there13: { IsThere 13 copies (is_some s13) },
-    ghost there14: { IsThere 14 copies (is_some s14) },
-    ghost there15: { IsThere 15 copies (is_some s15) },
 }
 
 // Each copy's arm.
 macro_rules! at_copy {
-    ($copy:expr, $site:ident, $call:expr, $system:ident: $($k:literal $s:ident)*) => {
+    ($copy:expr, $site:ident, $call:expr, $system:ident: $($k:literal $four:ident $s:ident)*) => {
         match $copy {
             $($k => {
-                let $site = &$system.$s;
+                let $site = &$system.$four.$s;
                 $call
             })*
             _ => unreachable!(),
@@ -145,14 +116,14 @@ impl<D: Disk + Drop, N: Mounting> System<D, N> {
         ensures seer { SeesMore seer.old seer.new }
         ensures known { IsKnown (setting_of N.table N.base) seer.new }
     {
-        at_copy!(ask.copy, site, serve_at(rt, &self.desk, site, seer, ask), self: 0 s0 1 s1 2 s2 3 s3 4 s4 5 s5 6 s6 7 s7 8 s8 9 s9 10 s10 11 s11 12 s12 13 s13 14 s14 15 s15)
+        at_copy!(ask.copy, site, serve_at(rt, &self.desk, site, seer, ask), self: 0 from0 s0 1 from0 s1 2 from0 s2 3 from0 s3 4 from4 s0 5 from4 s1 6 from4 s2 7 from4 s3 8 from8 s0 9 from8 s1 10 from8 s2 11 from8 s3 12 from12 s0 13 from12 s1 14 from12 s2 15 from12 s3)
     }
 
     /// A copy crashes: it is down until it serves again.
     pub fn crash<R: Wait>(&self, rt: &R, copy: u8)
         requires copy { copy < length N.base }
     {
-        at_copy!(copy, site, crash_at(rt, site), self: 0 s0 1 s1 2 s2 3 s3 4 s4 5 s5 6 s6 7 s7 8 s8 9 s9 10 s10 11 s11 12 s12 13 s13 14 s14 15 s15)
+        at_copy!(copy, site, crash_at(rt, site), self: 0 from0 s0 1 from0 s1 2 from0 s2 3 from0 s3 4 from4 s0 5 from4 s1 6 from4 s2 7 from4 s3 8 from8 s0 9 from8 s1 10 from8 s2 11 from8 s3 12 from12 s0 13 from12 s1 14 from12 s2 15 from12 s3)
     }
 
     /// The ledger logs a ready top, with the names that are listed of it. The pass has then seen what the answer rests on.

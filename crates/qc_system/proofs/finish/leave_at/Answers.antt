@@ -1,5 +1,5 @@
 -- One more copy leaves, where it is there.
-use Rattle.std.proofs.Common.{◌≡◌, ◌+◌, ◌<◌, ◌≤◌, ◌++◌, ◌∷◌, ap, sym, ◌∙◌, subst, arith, length}
+use Rattle.std.proofs.Common.{◌≡◌, ◌+◌, ◌++◌, ◌∷◌, ap, sym, ◌∙◌, subst, arith, length}
 use Rattle.std.specs.Prelude.{is_some}
 use Rattle.qc_disk.specs.Disk.{DiskView as Disk}
 use Rattle.qc_event.specs.Legal.{Legal}
@@ -24,17 +24,17 @@ use Rattle.qc_system.proofs.finish.leave_at.Goals as goal
 pub fold_at-requires : goal.fold_at-requires
 fold_at-requires g c =
     let folds = c.args.folds.now.items in
-    let below = subst (λ n. g.row.C < n) c.requires.whole (is_below g.row.C c.args.all (is_some c.args.site) (ap is_some c.in-Some.is) c.requires.there) in
+    let below = is_below g.row.C (length g.N.Store.base) (is_some c.args.site) (ap is_some c.in-Some.is) c.requires.there in
     (omega arith, (below, (c.requires.proper, first_other (length g.N.Store.base) g.N.Mounting.found (g.row.C + 1) folds c.remove-fold.result (omega (arith, c.requires.others.0, below)) c.remove-fold.ensures.value c.requires.others.1)))
 
 pub returns-in-Some-clause-others : goal.returns-in-Some-clause-others
 returns-in-Some-clause-others g c =
-    let below = subst (λ n. g.row.C < n) c.requires.whole (is_below g.row.C c.args.all (is_some c.args.site) (ap is_some c.in-Some.is) c.requires.there) in
+    let below = is_below g.row.C (length g.N.Store.base) (is_some c.args.site) (ap is_some c.in-Some.is) c.requires.there in
     taken_back (length g.N.Store.base) g.N.Mounting.found g.row.C c.args.folds.now.items c.remove-fold.new.self.items below c.remove-fold.ensures.items c.requires.others
 
 pub returns-in_default-clause-others : goal.returns-in_default-clause-others
 returns-in_default-clause-others g c =
-    let past = subst (λ n. n ≤ g.row.C) c.requires.whole (is_past g.row.C c.args.all (is_some c.args.site) (ap is_some c.in_default.is) c.requires.there) in
+    let past = is_past g.row.C (length g.N.Store.base) (is_some c.args.site) (ap is_some c.in_default.is) c.requires.there in
     (omega (arith, c.requires.others.0, past), no_others (length g.N.Store.base) g.N.Mounting.found (g.row.C + 1 + 1) c.args.folds.now.items (omega (arith, c.requires.others.0, past)))
 
 pub returns-in-Some-clause-seen : goal.returns-in-Some-clause-seen
@@ -67,7 +67,7 @@ returns-in-Some-clause-left g c =
     let active = disk_of (log_journal held.site.log) in
     let other = disk_of (other_in fold) in
     let same : left.2 ≡ held.site.replica.pass = c.leave-disk.ensures.same in
-    let below = subst (λ n. g.row.C < n) c.requires.whole (is_below g.row.C c.args.all (is_some c.args.site) (ap is_some c.in-Some.is) c.requires.there) in
+    let below = is_below g.row.C (length g.N.Store.base) (is_some c.args.site) (ap is_some c.in-Some.is) c.requires.there in
     let older : IsOlder first.seen joined.seen = older_trans first.seen folded.seen joined.seen c.fold_at.ensures.first.older c.join.ensures.seen.0 in
     let own_older : IsOlder seen joined.seen = subst (λ (v : View). IsOlder v.seen joined.seen) same c.join.ensures.seen.1 in
     let kin = ap (λ (v : View). v.kin) c.join.ensures.joined ∙ (ap (λ n. folded.kin ++ (n, left.2.mine) ∷ left.2.kin) c.leave-disk.ensures.pass.1 ∙ ap (λ l. l ++ (copy_seat g.row.C, left.2.mine) ∷ left.2.kin) c.fold_at.ensures.first.kin) in
@@ -97,4 +97,4 @@ returns-in-Some-clause-left g c =
 pub returns-in_default-clause-left : goal.returns-in_default-clause-left
 returns-in_default-clause-left g c =
     no_more (setting_of g.N.Store.table g.N.Store.base) g.N.Mounting.found g.D.Disk.view c.args.folding.now.since.seen g.row.C c.args.folding.now.whole c.args.folding.now.wanting (pairs_in c.args.returns.now) c.args.first.now
-    (subst (λ n. n ≤ g.row.C) c.requires.whole (is_past g.row.C c.args.all (is_some c.args.site) (ap is_some c.in_default.is) c.requires.there)) c.requires.left
+    (is_past g.row.C (length g.N.Store.base) (is_some c.args.site) (ap is_some c.in_default.is) c.requires.there) c.requires.left
