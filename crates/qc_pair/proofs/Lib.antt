@@ -1,3 +1,3 @@
 pub mod Bases
-mod Folds
+pub mod Folds
 pub mod Halves

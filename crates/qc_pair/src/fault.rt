@@ -29,7 +29,7 @@ pub(crate) fn grammar_no(disk: u8, index: u64) -> PairNo
 }
 
 /// What a fault of a disk's journal is to the opening of its pair.
-pub(crate) fn mount_no(disk: u8, fault: Fault) -> PairNo
+pub fn mount_no(disk: u8, fault: Fault) -> PairNo
     ensures { result ≡ mount_no disk fault }
 {
     let fault = match fault {

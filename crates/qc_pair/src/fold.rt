@@ -1,12 +1,13 @@
 //! The journal of a pair that is not active, and what is folded into it.
-ghost use Rattle.std.specs.Prelude.{ℕ, ◌≡◌, ◌<◌, ◌≤◌, ◌+◌, ◌^◌, ◌⊎◌, nat_lt, List, All, None, Some, IfErr, IfOk, OnErr, OnOk, IsErrOf, Err, length, if◌then◌else◌};
+ghost use Rattle.std.specs.Prelude.{ℕ, ◌≡◌, ◌<◌, ◌≤◌, ◌+◌, ◌^◌, ◌⊎◌, ◌∷◌, [], nat_lt, List, All, None, Some, IfErr, IfOk, OnErr, OnOk, IsErrAnd, IsErrOf, Err, length, if◌then◌else◌};
 ghost use Rattle.qc_codec.specs.Bodies as body;
 ghost use Rattle.qc_codec.specs.Fields as field;
 ghost use Rattle.qc_codec.specs.Fields.{current};
 ghost use Rattle.qc_disk.specs.Disk.{HasCause, CountsOnce, LeavesOnly};
-ghost use Rattle.qc_journal.specs.Journal.{disk_of, IsUp, Keeps};
+ghost use Rattle.qc_journal.specs.Image.{bodies_of};
+ghost use Rattle.qc_journal.specs.Journal.{disk_of, limit_of, IsUp, Keeps};
 ghost use Rattle.qc_journal.specs.declared.fault.Fault.TheVariants.{Full, Memory};
-ghost use Rattle.qc_pair.specs.Folding.{IsFolding, IsFoldNo};
+ghost use Rattle.qc_pair.specs.Folding.{HasNoRoom, IsFolding, IsFoldNo, IsFullFold};
 
 use crate::folding::fold;
 use qc_codec::{BaseRecord, FORMAT, Tuples, write_base};
@@ -60,7 +61,7 @@ pub struct Fold<D: Disk> {
 }
 
 impl<D: Disk> Fold<D> {
-    ghost use Rattle.qc_pair.specs.Fold.{active_number, copies_in, folded_base, folded_bodies, made_in, other_in, own_disk, spare_disk, swapped_in, IsFullFor, IsSameFold};
+    ghost use Rattle.qc_pair.specs.Fold.{active_number, copies_in, folded_base, folded_bodies, folded_disk, made_in, other_in, own_disk, renewed_base, renewed_bodies, spare_disk, swapped_in, IsExchanged, IsFullFor, IsSameFold};
 
     /// The number of the next fold, none where the last has the number 2^63.
     pub fn next(&self) -> Option<u64>
@@ -75,16 +76,18 @@ impl<D: Disk> Fold<D> {
     }
 
     // The body of the next base, with these tuples. Full comes where the last number was used up.
-    fn base(&self, alloc: Global, tuples: Vec<Tuple>) -> Result<Body, Fault>
+    fn base(&self, alloc: Global, epoch: u32, tuples: Vec<Tuple>) -> Result<Body, Fault>
+        requires begun { 0 < epoch }
         requires fit { All (field.tuple (current (copies_in self.now))).fits tuples.items }
-        ensures base { IfOk result (λ base. base.items ≡ folded_base self.now tuples.items) }
+        ensures base { IfOk result (λ base. base.items
+            ≡ renewed_base self.now epoch tuples.items) }
         ensures some { OnOk result (active_number self.now < 2 ^ 63) }
         ensures refused { OnErr result ((result ≡ Err Memory)
             ⊎ ((result ≡ Err (Full 0)) × (2 ^ 63 ≤ active_number self.now))) }
         ensures last { 2 ^ 63 ≤ active_number self.now → result ≡ Err (Full 0) }
     {
         match self.next() {
-            Some(number) => write(alloc, number, self.epoch, self.copies, tuples),
+            Some(number) => write(alloc, number, epoch, self.copies, tuples),
             None => Err(Fault::Full { place: 0 }),
         }
     }
@@ -119,8 +122,102 @@ impl<D: Disk> Fold<D> {
         ensures counts_once { CountsOnce (D.view (disk_of (other_in self.old))).faults
             (D.view (disk_of (other_in self.new))).faults (IsErrOf result Fault.Disk) }
     {
-        let base = self.base(alloc, tuples)?;
+        let base = self.base(alloc, self.epoch, tuples)?;
         fold(&mut self.other, &self.made, &base)
+    }
+
+    // Drops what the journal has, and writes there how its disk was made and a base.
+    fn fold_base(&mut self, base: &[u8]) -> Result<(), Fault>
+        requires up { IsUp (other_in self.old) }
+        ensures up { OnOk result (IsUp (other_in self.new)) }
+        ensures same { IsSameFold self.old self.new }
+        ensures full { (place : ℕ) → result ≡ Err (Full place)
+            → IsFullFold (limit_of (other_in self.old)) (made_in self.old) base.now place }
+        ensures room { OnOk result ((place : ℕ)
+            → IsFullFold (limit_of (other_in self.old)) (made_in self.old) base.now place → ⊥) }
+        ensures fault { IfErr result IsFoldNo }
+        ensures keeps { OnOk result ((bodies : List (List ℕ)) → Keeps (other_in self.old) bodies
+            → Keeps (other_in self.new) (made_in self.old ∷ base.now ∷ [])) }
+        ensures any_moment { (bodies : List (List ℕ)) → Keeps (other_in self.old) bodies
+            → LeavesOnly D.view (disk_of (other_in self.old)) (disk_of (other_in self.new))
+            (IsFolding bodies (made_in self.old) base.now) }
+        ensures cause { HasCause (D.view (disk_of (other_in self.old))).faults
+            (D.view (disk_of (other_in self.new))).faults (IsErrOf result Fault.Disk) }
+        ensures counts_once { CountsOnce (D.view (disk_of (other_in self.old))).faults
+            (D.view (disk_of (other_in self.new))).faults (IsErrOf result Fault.Disk) }
+    {
+        fold(&mut self.other, &self.made, base)
+    }
+
+    /// Folds these tuples, as of an epoch, into the journal, which is the active one from then on; the one that was active
+    /// is the other, into which the next fold writes the body that says how its disk was made. It tells the bodies that
+    /// the active one has. A refusal hands the journal back that is still active.
+    pub fn renew(
+        mut self,
+        alloc: Global,
+        active: Journal<D>,
+        made: Body,
+        epoch: u32,
+        tuples: Vec<Tuple>,
+    ) -> Result<(Journal<D>, Vec<Body>, Self), (Journal<D>, Self, Fault)>
+        requires up { IsUp (other_in self) }
+        requires begun { 0 < epoch }
+        requires fit { All (field.tuple (current (copies_in self))).fits tuples.items }
+        ensures up { IfOk result (λ renewed. IsUp renewed.0) }
+        ensures limit { IfOk result (λ renewed. limit_of renewed.0 ≡ limit_of (other_in self)) }
+        ensures bodies { IfOk result (λ renewed. bodies_of renewed.1.items
+            ≡ renewed_bodies self epoch tuples.items) }
+        ensures keeps { IfOk result (λ renewed. (bodies : List (List ℕ))
+            → Keeps (other_in self) bodies → Keeps renewed.0 (bodies_of renewed.1.items)) }
+        ensures exchanged { IfOk result (λ renewed. IsExchanged self active made.items renewed.2) }
+        ensures back { IfErr result (λ refused. (refused.0 ≡ active)
+            × IsSameFold self refused.1) }
+
+        // Full comes where a body would pass the limit, or the last number was used up, and nowhere else.
+        ensures fault { IfErr result (λ refused. IsFoldNo refused.2) }
+        ensures full { (place : ℕ) → IsErrAnd result (λ refused. refused.2 ≡ Full place)
+            → HasNoRoom (active_number self) (limit_of (other_in self)) (made_in self)
+            (renewed_base self epoch tuples.items) place }
+        ensures room { OnOk result ((place : ℕ) → HasNoRoom (active_number self)
+            (limit_of (other_in self)) (made_in self) (renewed_base self epoch tuples.items) place
+            → ⊥) }
+        ensures low { OnOk result (active_number self < 2 ^ 63) }
+        ensures last { 2 ^ 63 ≤ active_number self
+            → folded_disk result ≡ disk_of (other_in self) }
+
+        // What it leaves of the disk into which it folds at each moment, and what it costs.
+        ensures any_moment { (bodies : List (List ℕ)) → Keeps (other_in self) bodies
+            → LeavesOnly D.view (disk_of (other_in self)) (folded_disk result)
+            (IsFolding bodies (made_in self) (renewed_base self epoch tuples.items)) }
+        ensures cause { HasCause (D.view (disk_of (other_in self))).faults
+            (D.view (folded_disk result)).faults
+            (IsErrAnd result (λ refused. refused.2 ≡ Fault.Disk)) }
+        ensures counts_once { CountsOnce (D.view (disk_of (other_in self))).faults
+            (D.view (folded_disk result)).faults
+            (IsErrAnd result (λ refused. refused.2 ≡ Fault.Disk)) }
+    {
+        let base = match self.base(alloc, epoch, tuples) {
+            Ok(base) => base,
+            Err(fault) => return Err((active, self, fault)),
+        };
+        let Ok(mut bodies) = Vec::with_capacity(alloc, 2) else {
+            return Err((active, self, Fault::Memory));
+        };
+        match self.fold_base(&base) {
+            Ok(()) => {}
+            Err(fault) => return Err((active, self, fault)),
+        }
+        bodies.push_reserved(self.made);
+        bodies.push_reserved(base);
+        let fold = Fold {
+            other: active,
+            number: self.number + 1,
+            is_swapped: !self.is_swapped,
+            made,
+            epoch: self.epoch,
+            copies: self.copies,
+        };
+        Ok((self.other, bodies, fold))
     }
 
     /// The number of its disk, in the pair of a disk of this number.
@@ -129,6 +226,14 @@ impl<D: Disk> Fold<D> {
         ensures { result ≡ (if swapped_in self.now then who else who + 17) }
     {
         if self.is_swapped { who } else { who + 17 }
+    }
+
+    /// The number of the active disk there.
+    pub fn active_disk(&self, who: u8) -> u8
+        requires { who ≤ 16 }
+        ensures { result ≡ (if swapped_in self.now then who + 17 else who) }
+    {
+        if self.is_swapped { who + 17 } else { who }
     }
 
     /// The disk, and then the spare, of which this one is active.

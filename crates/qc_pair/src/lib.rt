@@ -9,7 +9,7 @@ mod kind;
 mod opening;
 mod pair;
 
-pub use fault::PairNo;
+pub use fault::{PairNo, mount_no};
 pub use fold::Fold;
 pub use kind::Kind;
 pub use opening::open;

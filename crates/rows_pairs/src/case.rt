@@ -59,7 +59,7 @@ impl PairCase {
 impl Case for PairCase {
     fn step(&mut self, step: &Step<'_>) -> Result<String, AllocError> {
         match step.name {
-            "open" | "fold" => self.open(step),
+            "open" | "fold" | "renew" => self.open(step),
             "disks" => self.bytes(),
             _ => {
                 let answer = match self.shelf.step(step)? {

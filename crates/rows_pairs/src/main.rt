@@ -11,6 +11,8 @@
 //! - `fold WHO KIND MADE EPOCH COPIES TUPLE ..`: opens it so, folds into the other journal a base of this epoch behind the
 //!   body MADE, of a store of so many copies, and tells how that went. TUPLE is `VERSION,VALUE,GENERATION,READ,WRITE,VOTES`
 //!   with votes as `1,1`.
+//! - `renew WHO KIND MADE EPOCH COPIES TUPLE ..`: opens it so, folds likewise and exchanges both journals, and tells how
+//!   they stand then.
 //! - `disks`: the bytes of each disk.
 //!
 //! The disks that come back are those of the case then.

@@ -1,5 +1,5 @@
 //! Opening a pair.
-ghost use Rattle.std.specs.Prelude.{◌≡◌, ◌≤◌, All};
+ghost use Rattle.std.specs.Prelude.{◌≡◌, ◌<◌, ◌≤◌, All};
 ghost use Rattle.qc_codec.specs.Fields as field;
 ghost use Rattle.qc_codec.specs.Fields.{current};
 ghost use Rattle.qc_journal.specs.Journal.{IsUp};
@@ -10,7 +10,7 @@ use crate::answer::{opened, put_lengths};
 use crate::wish::Wish;
 use qc_config::Tuple;
 use qc_disk::Disk;
-use qc_journal::Body;
+use qc_journal::{Body, Journal};
 use qc_pair::{Fold, Kind, Pair, open};
 use rows_kit::Step;
 use std::alloc::{AllocError, Global};
@@ -46,7 +46,40 @@ fn put_fold<D: Disk + Drop>(
     }
 }
 
-// Tells of a pair that was opened, and folds where a step says so: what came, and both disks.
+// Renews a pair that was opened, and tells how it stands then: what came, and both disks.
+fn renewed<D: Disk + Drop>(
+    alloc: Global,
+    mut text: String,
+    journal: Journal<D>,
+    fold: Fold<D>,
+    who: u8,
+    wish: (u32, Vec<Tuple>),
+) -> Result<(String, [D; 2]), AllocError>
+    requires few { who ≤ 16 }
+    requires up { IsUp (other_in fold) }
+    requires begun { 0 < wish.0 }
+    requires fit { All (field.tuple (current (copies_in fold))).fits wish.1.items }
+{
+    let made = vec![in alloc; 7]?;
+    let (epoch, tuples) = wish;
+    let (journal, fold) = match fold.renew(alloc, journal, made, epoch, tuples) {
+        Ok((journal, bodies, fold)) => {
+            let (active, other) = (fold.active_disk(who), fold.disk(who));
+            text.push_str("; renewed, ")?;
+            text.push_str(opened(alloc, active, other, fold.next(), &bodies)?.as_str())?;
+            (journal, fold)
+        }
+        Err((journal, fold, fault)) => {
+            text.push_str("; ")?;
+            text.push_str(fault.to_string(alloc)?.as_str())?;
+            (journal, fold)
+        }
+    };
+    let (disk, spare) = fold.into_disks(journal.into_disk());
+    Ok((text, [disk, spare]))
+}
+
+// Tells of a pair that was opened, and folds or renews where a step says so: what came, and both disks.
 fn told<D: Disk + Drop>(
     alloc: Global,
     pair: Pair<D>,
@@ -62,6 +95,9 @@ fn told<D: Disk + Drop>(
     let active = pair.active_disk(who);
     let (journal, mut fold) = pair.into_fold(wish.made, wish.epoch, wish.copies);
     let mut text = opened(alloc, active, fold.disk(who), fold.next(), bodies)?;
+    if step.name == "renew" {
+        return renewed(alloc, text, journal, fold, who, (wish.epoch, wish.tuples));
+    }
     if step.name == "fold" {
         put_fold(alloc, &mut text, &mut fold, wish.tuples)?;
     }

@@ -26,7 +26,7 @@ impl Wish {
         ensures { IfOk result (λ wish. IfSome wish (λ w.
             All (field.tuple (current w.copies)).fits w.tuples.items)) }
     {
-        if step.name != "fold" {
+        if step.name != "fold" && step.name != "renew" {
             return Ok(Some(Wish {
                 made: Vec::new(alloc),
                 epoch: 1,

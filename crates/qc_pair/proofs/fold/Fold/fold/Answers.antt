@@ -6,7 +6,7 @@ use Rattle.qc_pair.proofs.Folds.{room_for, same_run}
 use Rattle.qc_pair.proofs.fold.Fold.fold.Goals as goal
 
 pub returns-clause-room : goal.returns-clause-room
-returns-clause-room g c = room_for c.args.self.now c.args.tuples.items _ _ c.fold.result
+returns-clause-room g c = room_for c.args.self.now (folded_base c.args.self.now c.args.tuples.items) _ _ c.fold.result
     c.deref.ensures.value (c.deref-2.ensures.value ∙ c.in_ok-base.ensures.base) c.in_ok-base.ensures.some c.fold.ensures.room
 
 pub returns-clause-any_moment : goal.returns-clause-any_moment
