@@ -13,9 +13,9 @@ use Rattle.qc_event.specs.Base.{IsConfigFor, IsProper}
 use Rattle.qc_event.specs.History.{limit}
 use Rattle.qc_event.specs.Tables.{setting_of}
 use Rattle.qc_codec.specs.Bodies.{is_between, making, made, row, table}
-use Rattle.qc_codec.specs.Fields.{config, current_format, tuple, word, Layout}
+use Rattle.qc_codec.specs.Fields.{config, tuple, word, Layout}
 use Rattle.qc_codec.specs.Gives.{Spells}
-use Rattle.qc_codec.specs.Ledger.{made_for}
+use Rattle.qc_codec.specs.Ledger.{made_in}
 use Rattle.qc_codec.proofs.Fits.{config_legal, config_votes}
 use Rattle.qc_trail_codec.specs.Events.{entry}
 use Rattle.qc_trail_codec.specs.Trail.{base, trail, layout_of}
@@ -47,15 +47,15 @@ record IsTable (t : Table) : Type 0 where
   most_records : length t.records ≤ 64
   configs : All (λ (r : Row). IsConfigFor t.copies r.config) t.records
 
-is_table : (t : Table) → (table current_format).fits t → IsTable t
+is_table : (format : ℕ) (t : Table) → (table format).fits t → IsTable t
 unfolding table
-is_table t fits =
+is_table format t fits =
     let records = between 1 64 (length t.records) fits.0.0.1.0.0.1 in
-    record { some_record = records.0; most_records = records.1; configs = λ k d lt. row_for (layout_of 1 t.copies) _ (fits.0.0.1.0.1.1 k d lt) }
+    record { some_record = records.0; most_records = records.1; configs = λ k d lt. row_for (layout_of format t.copies) _ (fits.0.0.1.0.1.1 k d lt) }
 
-made_table : (who : ℕ) (t : Table) → made.fits (made_for who t) → (table current_format).fits t
+made_table : (format who : ℕ) (t : Table) → made.fits (made_in format who t) → (table format).fits t
 unfolding made making
-made_table who t fits = fits.0.1.1
+made_table format who t fits = fits.0.1.1
 
 -- what a base that fits has
 record IsBase (b : List (List Tuple)) : Type 0 where
@@ -63,20 +63,20 @@ record IsBase (b : List (List Tuple)) : Type 0 where
   most_copies : length b ≤ 16
   configs : All (λ (r : List Tuple). All (λ (t : Tuple). IsConfigFor (length b) t.config) r) b
 
-is_base : (b : List (List Tuple)) → (base current_format).fits b → IsBase b
+is_base : (format : ℕ) (b : List (List Tuple)) → (base format).fits b → IsBase b
 unfolding base
-is_base b fits =
+is_base format b fits =
     let copies = between 1 16 (length b) fits.0.0.1 in
-    record { some_copy = copies.0; most_copies = copies.1; configs = λ k d lt j t less. tuple_for (layout_of 1 (length b)) _ ((fits.0.1.1.1 k d lt).1 j t less) }
+    record { some_copy = copies.0; most_copies = copies.1; configs = λ k d lt j t less. tuple_for (layout_of format (length b)) _ ((fits.0.1.1.1 k d lt).1 j t less) }
 
-trail_base : (t : SavedTrail) → (trail current_format).fits t → (base current_format).fits t.base
+trail_base : (format : ℕ) (t : SavedTrail) → (trail format).fits t → (base format).fits t.base
 unfolding trail
-trail_base t fits = fits.0.0
+trail_base format t fits = fits.0.0
 
 pub proper : (t : Table) (saved : SavedTrail) (bytes : List ℕ) → IsSaved t saved bytes → IsProper (setting_of t saved.base)
 proper t saved bytes s =
-    let rows = is_table t (made_table 0 t s.made.1) in
-    let is = is_base saved.base (trail_base saved s.rest.1) in
+    let rows = is_table s.format t (made_table s.format 0 t s.made.1) in
+    let is = is_base s.format saved.base (trail_base s.format saved s.rest.1) in
     let many : length (map (λ (r : Row). r.config) t.records) ≡ length t.records = length-map t.records (λ (r : Row). r.config) in
     let some = rows.some_record in
     let most = rows.most_records in
@@ -97,29 +97,29 @@ width : SavedTrail → ℕ
 width t = length (slice_index_or t.base 0 [])
 
 -- a trail's bytes begin with how many copies and records there are
-begins : (t : SavedTrail) → (rest : List ℕ) × ((trail current_format).spell t ≡ length t.base ∷ width t ∷ rest)
+begins : (format : ℕ) (t : SavedTrail) → (rest : List ℕ) × ((trail format).spell t ≡ length t.base ∷ width t ∷ rest)
 unfolding trail base width
-begins t = (_, refl)
+begins format t = (_, refl)
 
-same_sizes : (bytes : List ℕ) (t u : SavedTrail) → Spells (trail current_format) bytes t → Spells (trail current_format) bytes u → (length t.base ≡ length u.base) × (width t ≡ width u)
-same_sizes bytes t u first second =
-    let one = begins t in
-    let two = begins u in
+same_sizes : (format : ℕ) (bytes : List ℕ) (t u : SavedTrail) → Spells (trail format) bytes t → Spells (trail format) bytes u → (length t.base ≡ length u.base) × (width t ≡ width u)
+same_sizes format bytes t u first second =
+    let one = begins format t in
+    let two = begins format u in
     let same : length t.base ∷ width t ∷ one.0 ≡ length u.base ∷ width u ∷ two.0 = sym one.1 ∙ sym first.0 ∙ second.0 ∙ two.1 in
     (cc, cc)
 
 -- each copy has as many records as the first
-alike : (t : SavedTrail) → (trail current_format).fits t → All (λ (row : List Tuple). length row ≡ width t) t.base
+alike : (format : ℕ) (t : SavedTrail) → (trail format).fits t → All (λ (row : List Tuple). length row ≡ width t) t.base
 unfolding trail base width
-alike t fits k d lt = (fits.0.0.0.1.1.1 k d lt).0
+alike format t fits k d lt = (fits.0.0.0.1.1.1 k d lt).0
 
 -- trails of the same bytes have the same sizes
-pub sizes_told : (table : Table) (bytes : List ℕ) (t u : SavedTrail) → Spells (trail current_format) bytes t → Spells (trail current_format) bytes u → HasSizes table u.base → HasSizes table t.base
+pub sizes_told : (format : ℕ) (table : Table) (bytes : List ℕ) (t u : SavedTrail) → Spells (trail format) bytes t → Spells (trail format) bytes u → HasSizes table u.base → HasSizes table t.base
 unfolding width
-sizes_told table bytes t u first second sizes =
-    let same = same_sizes bytes t u first second in
-    let some = (is_base u.base (trail_base u second.1)).some_copy in
-    record { copies = same.0 ∙ sizes.copies; records = λ k d lt. alike t first.1 k d lt ∙ same.1 ∙ sizes.records 0 [] (omega (arith, some)) }
+sizes_told format table bytes t u first second sizes =
+    let same = same_sizes format bytes t u first second in
+    let some = (is_base format u.base (trail_base format u second.1)).some_copy in
+    record { copies = same.0 ∙ sizes.copies; records = λ k d lt. alike format t first.1 k d lt ∙ same.1 ∙ sizes.records 0 [] (omega (arith, some)) }
 
 -- HOW MANY ENTRIES THERE ARE
 
@@ -131,16 +131,16 @@ as_many : {A : Type 0} (spell : A → List ℕ) (xs : List A) → ((x : A) → 1
 as_many spell [] some = omega arith
 as_many spell (x ∷ xs) some = omega (arith, some x, as_many spell xs some, length-append (spell x) (flat_map spell xs))
 
-entries_fewer : (t : SavedTrail) → length t.entries ≤ length ((trail current_format).spell t)
+entries_fewer : (format : ℕ) (t : SavedTrail) → length t.entries ≤ length ((trail format).spell t)
 unfolding trail
-entries_fewer t =
-    let layout = layout_of 1 (length t.base) in
-    let head = (base current_format).spell t.base in
+entries_fewer format t =
+    let layout = layout_of format (length t.base) in
+    let head = (base format).spell t.base in
     omega (arith, as_many (entry layout).spell t.entries (some_bytes layout), length-append {A = ℕ})
 
 pub few : (t : Table) (saved : SavedTrail) (bytes : List ℕ) → IsSaved t saved bytes → length bytes ≤ 2 ^ 24 → length saved.entries ≤ limit
 few t saved bytes s short =
-    let entries = entries_fewer saved in
+    let entries = entries_fewer s.format saved in
     let back = ap length s.rest.0 in
     let whole = ap length s.parts.joined in
     omega (arith, entries, back, whole, short, length-append (word.spell (length s.front)) (s.front ++ s.back), length-append s.front s.back)

@@ -27,6 +27,7 @@ unfolding word
 is_saved t trail spelled fits has = record {
   front = made.spell (made_for 0 t);
   back = (saved.trail current_format).spell trail;
+  format = current_format;
   parts = record { short = front_short t spelled; joined = refl };
   made = (refl, made_proper 0 t (omega arith) spelled);
   rest = (refl, fits);

@@ -2,7 +2,7 @@
 ghost use Rattle.std.specs.Prelude.{◌≡◌, ◌↔◌, List, ℕ, IfErr, IfOk, IsErrOf, IsTrue};
 ghost use Rattle.qc_codec.specs.Bodies as body;
 ghost use Rattle.qc_codec.specs.Gives.{Spells};
-ghost use Rattle.qc_codec.specs.Ledger.{made_for};
+ghost use Rattle.qc_codec.specs.Ledger.{made_in};
 ghost use Rattle.qc_codec.specs.declared.fault.CodecNo.TheVariants.{Bad};
 ghost use Rattle.qc_event.specs.declared.table.Table as tables;
 ghost use Rattle.qc_trail_codec.specs.declared.record.SavedTrail as trails;
@@ -45,17 +45,17 @@ fn parted(bytes: &[u8]) -> Result<Parts<'_>, CodecNo>
     Ok(Parts { made, trail })
 }
 
-// The table over which disk 0 was made.
-fn table_in(alloc: Global, bytes: &[u8]) -> Result<Table, CodecNo>
-    ensures found { IfOk result (λ table. Spells body.made bytes.now (made_for 0 table)) }
-    ensures bad { IsErrOf result Bad → (table : tables.Table) →
-        Spells body.made bytes.now (made_for 0 table) → ⊥ }
+// How disk 0 was made.
+fn ledger_made(alloc: Global, bytes: &[u8]) -> Result<Made, CodecNo>
+    ensures found { IfOk result (λ m. Spells body.made bytes.now (made_in m.format 0 m.table)) }
+    ensures bad { IsErrOf result Bad → (format : ℕ) (table : tables.Table) →
+        Spells body.made bytes.now (made_in format 0 table) → ⊥ }
 {
-    let Made { who, table, .. } = read_made(alloc, bytes)?;
-    if who != LEDGER_DISK {
+    let made = read_made(alloc, bytes)?;
+    if made.who != LEDGER_DISK {
         return Err(CodecNo::Bad);
     }
-    Ok(table)
+    Ok(made)
 }
 
 // Whether a base has a table's copies, and its records at each.
@@ -81,8 +81,8 @@ pub(crate) fn read_saved(alloc: Global, bytes: &[u8]) -> Result<Saved, CodecNo>
         IsSaved table trail bytes.now → ⊥ }
 {
     let parts = parted(bytes)?;
-    let table = table_in(alloc, parts.made)?;
-    let trail = read_trail(alloc, parts.trail)?;
+    let Made { format, table, .. } = ledger_made(alloc, parts.made)?;
+    let trail = read_trail(alloc, parts.trail, format)?;
     if !has_sizes(&table, &trail.base) {
         return Err(CodecNo::Bad);
     }

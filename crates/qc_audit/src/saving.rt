@@ -45,7 +45,8 @@ fn joined(alloc: Global, front: &[u8], back: &[u8]) -> Result<Vec<u8>, AllocErro
     Ok(bytes)
 }
 
-/// The saved form of a table and the trail of a run over it, which began with a base. Its time grows with the entries.
+/// The saved form, in the current format, of a table and the trail of a run over it, which began with a base. Its time
+/// grows with the entries.
 pub fn saved(
     alloc: Global,
     table: &Table,

@@ -1,5 +1,5 @@
 -- What fits its form can be saved, so what was read can be saved again.
-use Rattle.std.proofs.Common.{List, length, arith}
+use Rattle.std.proofs.Common.{ℕ, List, length, arith}
 use Rattle.std.specs.Prelude.{nat_le}
 use Rattle.std.specs.List.{All}
 use Rattle.std.proofs.lemmas.Bool.{and_parts, leb-true}
@@ -23,7 +23,7 @@ use Rattle.qc_event.specs.declared.event.Kind.TheVariants.{User, Read, Write, Re
 use Rattle.qc_event.specs.declared.event.Refusal.{Refusal}
 use Rattle.qc_event.specs.declared.event.Refusal.TheVariants.{Blocked, Dead}
 use Rattle.qc_codec.specs.Bodies.{granted}
-use Rattle.qc_codec.specs.Fields.{current_format, Layout}
+use Rattle.qc_codec.specs.Fields.{Layout}
 use Rattle.qc_codec.proofs.Fits.{config_votes, tuple_votes, tuple_legal, name_numbered, granted_votes}
 use Rattle.qc_trail_codec.specs.Events.{op, kind, answer, cause, how, ask, refusal, event, entry}
 use Rattle.qc_trail_codec.specs.Reasons.{inability}
@@ -98,9 +98,9 @@ module _ (layout : Layout) where
   unfolding entry
   entry_again e fits = event_again e.event fits.0.1
 
-base_again : (b : List (List Tuple)) → (base current_format).fits b → IsProperBase (records_of b) b
+base_again : (format : ℕ) (b : List (List Tuple)) → (base format).fits b → IsProperBase (records_of b) b
 unfolding base
-base_again b fits =
+base_again format b fits =
     let copies = and_parts (nat_le 1 (length b)) _ fits.0.0.1 in
     let records = and_parts (nat_le 1 (records_of b)) _ fits.0.1.0.1 in
     let some_copy = leb-true 1 (length b) copies.0 in
@@ -113,12 +113,12 @@ base_again b fits =
       rows = λ k d lt. record {
         same_records = (fits.0.1.1.1 k d lt).0;
         configs = λ j t within. record {
-          legal = tuple_legal (layout_of 1 (length b)) _ ((fits.0.1.1.1 k d lt).1 j t within);
-          for_copies = tuple_votes (layout_of 1 (length b)) _ ((fits.0.1.1.1 k d lt).1 j t within);
+          legal = tuple_legal (layout_of format (length b)) _ ((fits.0.1.1.1 k d lt).1 j t within);
+          for_copies = tuple_votes (layout_of format (length b)) _ ((fits.0.1.1.1 k d lt).1 j t within);
         };
       };
     }
 
-pub trail_again : (t : SavedTrail) → (trail current_format).fits t → IsProperBase (records_of t.base) t.base × All (CanBeSaved (length t.base)) t.entries
+pub trail_again : (format : ℕ) (t : SavedTrail) → (trail format).fits t → IsProperBase (records_of t.base) t.base × All (CanBeSaved (length t.base)) t.entries
 unfolding trail
-trail_again t fits = (base_again t.base fits.0.0, λ k d lt. entry_again (layout_of 1 (length t.base)) _ (fits.0.1.0.1.1 k d lt))
+trail_again format t fits = (base_again format t.base fits.0.0, λ k d lt. entry_again (layout_of format (length t.base)) _ (fits.0.1.0.1.1 k d lt))

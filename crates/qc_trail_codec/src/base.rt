@@ -2,7 +2,7 @@
 ghost use Rattle.std.specs.Prelude.{◌≡◌, ◌<◌, ◌≤◌, Some, length, IfOk, IfErr, OnOk};
 ghost use Rattle.std.specs.List.{All};
 ghost use Rattle.qc_codec.specs.Fields as field;
-ghost use Rattle.qc_codec.specs.Fields.{current, current_format};
+ghost use Rattle.qc_codec.specs.Fields.{current, current_format, layout};
 ghost use Rattle.qc_codec.specs.Form.{times, times_taken};
 ghost use Rattle.qc_codec.specs.Gives.{Refuses, Reads, ReadsEach, Puts, PutsEach};
 ghost use Rattle.qc_event.specs.Base.{IsProperBase};
@@ -27,40 +27,47 @@ fn row(
     alloc: Global,
     copies: u8,
     records: u8,
+    format: u8,
 ) -> Result<Vec<Tuple>, CodecNo>
     requires { copies ≤ 16 }
-    ensures some { IfOk result (λ row. times_taken records (field.tuple (current copies))
+    ensures some { IfOk result (λ row. times_taken records (field.tuple (layout copies format))
         cursor.old.rest.now ≡ Some (row.items, cursor.new.rest.now)) }
     ensures none { IfErr result (λ fault. Refuses fault
-        (times_taken records (field.tuple (current copies)) cursor.old.rest.now)) }
+        (times_taken records (field.tuple (layout copies format)) cursor.old.rest.now)) }
 {
     let mut row = Vec::new(alloc);
     for _ in 0..records {
-        let tuple = cursor.tuple(copies, FORMAT)?;
+        let tuple = cursor.tuple(copies, format)?;
         row.push(tuple)?;
     }
     Ok(row)
 }
 
 // The tuples of so many copies and records.
-fn rows(cursor: &mut Cursor<'_>, alloc: Global, copies: u8, records: u8) -> Result<Base, CodecNo>
+fn rows(
+    cursor: &mut Cursor<'_>,
+    alloc: Global,
+    copies: u8,
+    records: u8,
+    format: u8,
+) -> Result<Base, CodecNo>
     requires { copies ≤ 16 }
-    ensures taken { ReadsEach (times records (field.tuple (current copies)))
+    ensures taken { ReadsEach (times records (field.tuple (layout copies format)))
         copies result cursor.old cursor.new }
     ensures many { IfOk result (λ base. length base ≡ copies) }
 {
     let mut rows = Vec::new(alloc);
     for _ in 0..copies {
-        let row = row(cursor, alloc, copies, records)?;
+        let row = row(cursor, alloc, copies, records, format)?;
         rows.push(row)?;
     }
     Ok(Base::new(rows))
 }
 
-/// The base at a cursor.
+/// The base at a cursor, in a format.
 #[tactic(auto, unfolding(crate::specs::Trail::base))]
-pub(crate) fn base(cursor: &mut Cursor<'_>, alloc: Global) -> Result<Base, CodecNo>
-    ensures taken { Reads (saved.base current_format) result cursor.old cursor.new }
+pub(crate) fn base(cursor: &mut Cursor<'_>, alloc: Global, format: u8) -> Result<Base, CodecNo>
+    ensures taken { Reads (saved.base format) result cursor.old cursor.new }
     ensures most { IfOk result (λ base. length base ≤ 16) }
 {
     let copies = cursor.byte()?;
@@ -71,7 +78,7 @@ pub(crate) fn base(cursor: &mut Cursor<'_>, alloc: Global) -> Result<Base, Codec
     if records == 0 || records > RECORDS {
         return Err(CodecNo::Bad);
     }
-    rows(cursor, alloc, copies, records)
+    rows(cursor, alloc, copies, records, format)
 }
 
 fn put_row(out: &mut Vec<u8>, copies: u8, row: &[Tuple]) -> Result<(), AllocError>

@@ -1,6 +1,6 @@
 //! How transactions end.
 ghost use Rattle.std.specs.Prelude.{◌<◌, ◌≤◌, OnOk};
-ghost use Rattle.qc_codec.specs.Fields.{current};
+ghost use Rattle.qc_codec.specs.Fields.{current, layout};
 ghost use Rattle.qc_codec.specs.Gives.{Reads, Puts};
 ghost use Rattle.qc_trail_codec.specs.Events as events;
 ghost use Rattle.qc_trail_codec.specs.Saving.{CanEndBeSaved, IsAnswerFor, IsNumberedCause};
@@ -12,15 +12,15 @@ use qc_event::{Answer, Cause, How};
 use std::alloc::AllocError;
 
 #[tactic(auto, unfolding(crate::specs::Events::answer))]
-fn answer(cursor: &mut Cursor<'_>, copies: u8) -> Result<Answer, CodecNo>
+fn answer(cursor: &mut Cursor<'_>, copies: u8, format: u8) -> Result<Answer, CodecNo>
     requires { copies ≤ 16 }
-    ensures { Reads (events.answer (current copies)) result cursor.old cursor.new }
+    ensures { Reads (events.answer (layout copies format)) result cursor.old cursor.new }
 {
     match cursor.byte()? {
         0 => Ok(Answer::Nothing),
-        1 => Ok(Answer::Value(cursor.value(FORMAT)?)),
+        1 => Ok(Answer::Value(cursor.value(format)?)),
         2 => Ok(Answer::Generation(cursor.long()?)),
-        3 => Ok(Answer::Reply(cursor.tuple(copies, FORMAT)?)),
+        3 => Ok(Answer::Reply(cursor.tuple(copies, format)?)),
         _ => Err(CodecNo::Bad),
     }
 }
@@ -109,12 +109,12 @@ fn put_cause(out: &mut Vec<u8>, cause: &Cause) -> Result<(), AllocError>
 
 /// How the transaction at a cursor ended.
 #[tactic(auto, unfolding(crate::specs::Events::how))]
-pub(crate) fn how(cursor: &mut Cursor<'_>, copies: u8) -> Result<How, CodecNo>
+pub(crate) fn how(cursor: &mut Cursor<'_>, copies: u8, format: u8) -> Result<How, CodecNo>
     requires { copies ≤ 16 }
-    ensures { Reads (events.how (current copies)) result cursor.old cursor.new }
+    ensures { Reads (events.how (layout copies format)) result cursor.old cursor.new }
 {
     match cursor.byte()? {
-        0 => Ok(How::Commit(answer(cursor, copies)?)),
+        0 => Ok(How::Commit(answer(cursor, copies, format)?)),
         1 => Ok(How::Abort(cause(cursor)?)),
         _ => Err(CodecNo::Bad),
     }

@@ -1,6 +1,6 @@
 //! Entries.
 ghost use Rattle.std.specs.Prelude.{◌<◌, ◌≤◌, OnOk};
-ghost use Rattle.qc_codec.specs.Fields.{current, IsNumbered};
+ghost use Rattle.qc_codec.specs.Fields.{current, layout, IsNumbered};
 ghost use Rattle.qc_codec.specs.Gives.{Reads, Puts};
 ghost use Rattle.qc_event.specs.declared.event.Event.TheVariants as event;
 ghost use Rattle.qc_trail_codec.specs.Events as events;
@@ -17,15 +17,15 @@ use std::alloc::AllocError;
 const SESSIONS: u8 = 16;
 
 #[tactic(auto, unfolding(crate::specs::Events::ask))]
-fn ask(cursor: &mut Cursor<'_>, copies: u8) -> Result<Ask, CodecNo>
+fn ask(cursor: &mut Cursor<'_>, copies: u8, format: u8) -> Result<Ask, CodecNo>
     requires { copies ≤ 16 }
-    ensures { Reads (events.ask (current copies)) result cursor.old cursor.new }
+    ensures { Reads (events.ask (layout copies format)) result cursor.old cursor.new }
 {
     Ok(Ask {
         access: cursor.name(1)?,
         copy: cursor.byte()?,
         rec: cursor.byte()?,
-        op: op(cursor, copies)?,
+        op: op(cursor, copies, format)?,
     })
 }
 
@@ -85,23 +85,23 @@ fn session(cursor: &mut Cursor<'_>) -> Result<u8, CodecNo>
 }
 
 #[tactic(auto, unfolding(crate::specs::Events::event))]
-fn event(cursor: &mut Cursor<'_>, copies: u8) -> Result<Event, CodecNo>
+fn event(cursor: &mut Cursor<'_>, copies: u8, format: u8) -> Result<Event, CodecNo>
     requires { copies ≤ 16 }
-    ensures { Reads (events.event (current copies)) result cursor.old cursor.new }
+    ensures { Reads (events.event (layout copies format)) result cursor.old cursor.new }
 {
     match cursor.byte()? {
         1 => Ok(Event::Start {
             name: cursor.name(1)?,
-            kind: kind(cursor, copies)?,
+            kind: kind(cursor, copies, format)?,
         }),
-        2 => Ok(Event::Ask(ask(cursor, copies)?)),
+        2 => Ok(Event::Ask(ask(cursor, copies, format)?)),
         3 => Ok(Event::Gone {
             access: cursor.name(1)?,
             why: why(cursor)?,
         }),
         4 => Ok(Event::Granted {
             copy: cursor.byte()?,
-            grant: cursor.granted(1, copies, FORMAT)?,
+            grant: cursor.granted(1, copies, format)?,
         }),
         5 => Ok(Event::Refused {
             access: cursor.name(1)?,
@@ -113,7 +113,7 @@ fn event(cursor: &mut Cursor<'_>, copies: u8) -> Result<Event, CodecNo>
         }),
         7 => Ok(Event::End {
             name: cursor.name(1)?,
-            how: how(cursor, copies)?,
+            how: how(cursor, copies, format)?,
         }),
         8 => Ok(Event::Unable {
             name: cursor.name(1)?,
@@ -228,12 +228,12 @@ fn put_event(out: &mut Vec<u8>, copies: u8, event: &Event) -> Result<(), AllocEr
 
 /// The entry at a cursor.
 #[tactic(auto, unfolding(crate::specs::Events::entry))]
-pub(crate) fn entry(cursor: &mut Cursor<'_>, copies: u8) -> Result<Entry, CodecNo>
+pub(crate) fn entry(cursor: &mut Cursor<'_>, copies: u8, format: u8) -> Result<Entry, CodecNo>
     requires { copies ≤ 16 }
-    ensures { Reads (events.entry (current copies)) result cursor.old cursor.new }
+    ensures { Reads (events.entry (layout copies format)) result cursor.old cursor.new }
 {
     let seat = cursor.word()?;
-    let event = event(cursor, copies)?;
+    let event = event(cursor, copies, format)?;
     Ok(Entry { seat, event })
 }
 

@@ -1,6 +1,6 @@
 //! Operations, and what transactions are for.
 ghost use Rattle.std.specs.Prelude.{◌<◌, ◌≤◌, OnOk};
-ghost use Rattle.qc_codec.specs.Fields.{current};
+ghost use Rattle.qc_codec.specs.Fields.{current, layout};
 ghost use Rattle.qc_codec.specs.Form.{byte};
 ghost use Rattle.qc_codec.specs.Gives.{Reads, Puts};
 ghost use Rattle.qc_trail_codec.specs.Events as events;
@@ -21,19 +21,19 @@ pub(crate) fn put_byte(out: &mut Vec<u8>, number: u8) -> Result<(), AllocError>
 
 /// The operation at a cursor.
 #[tactic(auto, unfolding(crate::specs::Events::op))]
-pub(crate) fn op(cursor: &mut Cursor<'_>, copies: u8) -> Result<Op, CodecNo>
+pub(crate) fn op(cursor: &mut Cursor<'_>, copies: u8, format: u8) -> Result<Op, CodecNo>
     requires { copies ≤ 16 }
-    ensures { Reads (events.op (current copies)) result cursor.old cursor.new }
+    ensures { Reads (events.op (layout copies format)) result cursor.old cursor.new }
 {
     match cursor.byte()? {
         0 => Ok(Op::Get),
         1 => Ok(Op::PutData {
             version: cursor.long()?,
-            value: cursor.value(FORMAT)?,
+            value: cursor.value(format)?,
         }),
         2 => Ok(Op::PutConfig {
             generation: cursor.long()?,
-            config: cursor.config(copies, FORMAT)?,
+            config: cursor.config(copies, format)?,
         }),
         _ => Err(CodecNo::Bad),
     }
@@ -66,9 +66,9 @@ pub(crate) fn put_op(out: &mut Vec<u8>, copies: u8, op: &Op) -> Result<(), Alloc
 
 /// What the transaction at a cursor is for.
 #[tactic(auto, unfolding(crate::specs::Events::kind))]
-pub(crate) fn kind(cursor: &mut Cursor<'_>, copies: u8) -> Result<Kind, CodecNo>
+pub(crate) fn kind(cursor: &mut Cursor<'_>, copies: u8, format: u8) -> Result<Kind, CodecNo>
     requires { copies ≤ 16 }
-    ensures { Reads (events.kind (current copies)) result cursor.old cursor.new }
+    ensures { Reads (events.kind (layout copies format)) result cursor.old cursor.new }
 {
     match cursor.byte()? {
         0 => Ok(Kind::User {
@@ -80,11 +80,11 @@ pub(crate) fn kind(cursor: &mut Cursor<'_>, copies: u8) -> Result<Kind, CodecNo>
         }),
         2 => Ok(Kind::Write {
             rec: cursor.byte()?,
-            value: cursor.value(FORMAT)?,
+            value: cursor.value(format)?,
         }),
         3 => Ok(Kind::Reconf {
             rec: cursor.byte()?,
-            config: cursor.config(copies, FORMAT)?,
+            config: cursor.config(copies, format)?,
         }),
         4 => Ok(Kind::Access),
         _ => Err(CodecNo::Bad),

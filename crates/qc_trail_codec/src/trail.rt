@@ -1,7 +1,7 @@
 //! Saved trails.
 ghost use Rattle.std.specs.Prelude.{◌≡◌, ◌<◌, ◌≤◌, [], ◌∷◌, ◌++◌, length, IfOk, IsErrOf, OnOk};
 ghost use Rattle.std.specs.List.{All};
-ghost use Rattle.qc_codec.specs.Fields.{current, current_format};
+ghost use Rattle.qc_codec.specs.Fields.{current, current_format, layout};
 ghost use Rattle.qc_codec.specs.Gives.{Reads, ReadsEach, ReadsAll, Spells, SpellsNone, PutsEach};
 ghost use Rattle.qc_codec.specs.declared.fault.CodecNo.TheVariants.{Bad};
 ghost use Rattle.qc_event.specs.Base.{IsProperBase};
@@ -24,14 +24,15 @@ fn entries(
     alloc: Global,
     copies: u8,
     count: u64,
+    format: u8,
 ) -> Result<Entries, CodecNo>
     requires { copies ≤ 16 }
-    ensures { ReadsEach (events.entry (current copies)) count result cursor.old cursor.new }
+    ensures { ReadsEach (events.entry (layout copies format)) count result cursor.old cursor.new }
 {
     let mut entries = Vec::new(alloc);
     for _ in 0..count {
         // A `?` in place of the match gets no proof today.
-        match entry(cursor, copies) {
+        match entry(cursor, copies, format) {
             Ok(entry) => append(&mut entries, entry)?,
             Err(fault) => return Err(fault),
         }
@@ -40,37 +41,37 @@ fn entries(
 }
 
 #[tactic(auto, unfolding(crate::specs::Trail::trail))]
-fn trail(cursor: &mut Cursor<'_>, alloc: Global) -> Result<SavedTrail, CodecNo>
-    ensures { Reads (saved.trail current_format) result cursor.old cursor.new }
+fn trail(cursor: &mut Cursor<'_>, alloc: Global, format: u8) -> Result<SavedTrail, CodecNo>
+    ensures { Reads (saved.trail format) result cursor.old cursor.new }
 {
-    let base = base(cursor, alloc)?;
+    let base = base(cursor, alloc, format)?;
     let count = cursor.long()?;
-    let entries = entries(cursor, alloc, base.copies() as u8, count)?;
+    let entries = entries(cursor, alloc, base.copies() as u8, count, format)?;
     Ok(SavedTrail { base, entries })
 }
 
-fn all(alloc: Global, bytes: &[u8]) -> Result<SavedTrail, CodecNo>
-    ensures { ReadsAll (saved.trail current_format) result bytes.now }
+fn all(alloc: Global, bytes: &[u8], format: u8) -> Result<SavedTrail, CodecNo>
+    ensures { ReadsAll (saved.trail format) result bytes.now }
 {
     let mut cursor = Cursor { rest: bytes };
-    let trail = trail(&mut cursor, alloc)?;
+    let trail = trail(&mut cursor, alloc, format)?;
     if !cursor.rest.is_empty() {
         return Err(CodecNo::Bad);
     }
     Ok(trail)
 }
 
-/// The saved trail that the bytes are.
-pub fn read_trail(alloc: Global, bytes: &[u8]) -> Result<SavedTrail, CodecNo>
-    ensures exact { ReadsAll (saved.trail current_format) result bytes.now }
-    ensures found { IfOk result (Spells (saved.trail current_format) bytes.now) }
-    ensures bad { IsErrOf result Bad → SpellsNone (saved.trail current_format) bytes.now }
+/// The saved trail that the bytes are in a format.
+pub fn read_trail(alloc: Global, bytes: &[u8], format: u8) -> Result<SavedTrail, CodecNo>
+    ensures exact { ReadsAll (saved.trail format) result bytes.now }
+    ensures found { IfOk result (Spells (saved.trail format) bytes.now) }
+    ensures bad { IsErrOf result Bad → SpellsNone (saved.trail format) bytes.now }
 
     // What was read can be saved again.
     ensures base { IfOk result (λ t. IsProperBase (records_of t.base) t.base) }
     ensures entries { IfOk result (λ t. All (CanBeSaved (length t.base)) t.entries) }
 {
-    all(alloc, bytes)
+    all(alloc, bytes, format)
 }
 
 fn put_entries(out: &mut Vec<u8>, copies: u8, entries: &Trail) -> Result<(), AllocError>
@@ -88,7 +89,7 @@ fn put_entries(out: &mut Vec<u8>, copies: u8, entries: &Trail) -> Result<(), All
     Ok(())
 }
 
-/// The bytes of a trail: what a run started from, and its entries.
+/// The bytes of a trail in the current format: what a run started from, and its entries.
 #[tactic(auto, unfolding(crate::specs::Trail::trail))]
 pub fn write_trail(alloc: Global, base: &Base, entries: &Trail) -> Result<Vec<u8>, AllocError>
     requires base { IsProperBase (records_of base.now) base.now }

@@ -9,7 +9,7 @@ use crate::{Answer, bytes_of, print_bytes, print_fault};
 use qc_event::{Base, Entry};
 use qc_trail::Trail;
 use qc_trail_codec::{SavedTrail, read_trail, write_trail};
-use rows_text::{TupleText, Words};
+use rows_text::{BadLine, TupleText, Words};
 use std::alloc::{AllocError, Global};
 use std::io;
 
@@ -49,16 +49,20 @@ fn print_both(rt: &HostRuntime, alloc: Global, saved: &SavedTrail) -> io::Result
     print_bytes(rt, alloc, &again)
 }
 
-fn show(rt: &HostRuntime, alloc: Global, bytes: &[u8]) -> io::Result<()> {
-    match read_trail(alloc, bytes) {
+fn show(rt: &HostRuntime, alloc: Global, format: u8, bytes: &[u8]) -> io::Result<()> {
+    match read_trail(alloc, bytes, format) {
         Ok(saved) => print_both(rt, alloc, &saved),
         Err(fault) => print_fault(rt, fault),
     }
 }
 
-/// `trail BYTES`.
+/// `trail FORMAT BYTES`. It is written again in the current format.
 pub(crate) fn trail(rt: &HostRuntime, alloc: Global, mut words: Words<'_>) -> Answer {
+    let format = words.number()?;
+    if format == 0 || format > 2 {
+        return Err(BadLine::Number);
+    }
     let bytes = bytes_of(alloc, &mut words)?;
     words.end()?;
-    Ok(show(rt, alloc, &bytes))
+    Ok(show(rt, alloc, format, &bytes))
 }
