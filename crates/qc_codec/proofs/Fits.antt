@@ -98,10 +98,37 @@ pub made_current : (m : Made) → made.fits m → m.format ≡ current_format
 unfolding made making
 made_current m fits = eqb-true m.format current_format fits.0.0.1
 
+-- A FORMAT BEHIND ANOTHER
+
+-- what fits in one format fits in the other
+datum_renewed : (f g : ℕ) (v : Datum) → (datum f).fits v → (datum g).fits v
+unfolding datum
+datum_renewed f g v = by (f == 1) (g == 1)
+  where
+    by : (a b : Bool) → (datum_by a).fits v → (datum_by b).fits v
+    by true true fits = fits
+    by true false fits = fits
+    by false true fits = fits
+    by false false fits = fits
+
+pub config_renewed : (copies f g : ℕ) (c : Voting) → (config (layout copies f)).fits c → (config (layout copies g)).fits c
+unfolding config
+config_renewed copies f g c fits = fits
+
+pub tuple_renewed : (copies f g : ℕ) (t : Tuple) → (tuple (layout copies f)).fits t → (tuple (layout copies g)).fits t
+unfolding tuple
+tuple_renewed copies f g t fits = ((fits.0.0, (datum_renewed f g t.value fits.0.1.0, (fits.0.1.1.0, config_renewed copies f g t.config fits.0.1.1.1))), fits.1)
+
+row_renewed : (copies f g : ℕ) (r : Row) → (row (layout copies f)).fits r → (row (layout copies g)).fits r
+unfolding row
+row_renewed copies f g r fits = ((fits.0.0, (datum_renewed f g r.start fits.0.1.0, config_renewed copies f g r.config fits.0.1.1)), fits.1)
+
 -- a table of any format fits the current one
 pub table_renewed : (m : Made) → made.fits m → (table current_format).fits m.table
-unfolding made making
-table_renewed m fits = subst (λ format. (table format).fits m.table) (made_current m fits) fits.0.1.1
+unfolding made making table
+table_renewed m fits =
+    let t = fits.0.1.1 in
+    (((t.0.0.0, ((t.0.0.1.0.0, (t.0.0.1.0.1.0, λ k d lt. row_renewed m.table.copies m.format current_format _ (t.0.0.1.0.1.1 k d lt))), t.0.0.1.1)), t.0.1), t.1)
 
 pub made_renewed : (m : Made) → made.fits m → made.fits (made_for m.who m.table)
 unfolding made making

@@ -22,12 +22,14 @@ use Rattle.qc_ledger.specs.Mounted as book
 use Rattle.qc_ledger.proofs.Logging.{up_by}
 use Rattle.qc_opening.specs.Disks.{told_by}
 use Rattle.qc_opening.specs.Mounted.{IsCopy}
-use Rattle.qc_opening.specs.Mountings.{AreBytes, MountedOn}
+use Rattle.qc_opening.specs.Mountings.{MountedOn}
+use Rattle.qc_site.specs.Image.{AreBytes}
 use Rattle.qc_opening.specs.Pairs.{active_number, of_active, of_other, AreNumbers, MountedInPairs}
 use Rattle.qc_opening.specs.Parts.{counted_by, IsStoreOver}
 use Rattle.qc_opening.specs.declared.parts.Parts.{Parts}
 use Rattle.qc_opening.specs.Stored.{WasMounted}
 use Rattle.qc_opening.proofs.Found.{active_found, active_found_so, active_later_so, active_told_is, active_was_so, bodies_found, found_of, numbers_found, other_found, other_found_so, other_later_so, other_was_so, swapped_found, IsPairAt}
+use Rattle.qc_opening.proofs.Mountings.Disks.{mounted_later}
 use Rattle.qc_opening.proofs.Mountings.Numbered.{pairs_length}
 use Rattle.qc_opening.proofs.Mountings.Row.{own_at, spare_at}
 use Rattle.qc_opening.proofs.ReadBodies.{bodies_told}
@@ -38,7 +40,7 @@ use Rattle.qc_pair.specs.Opening.{HaveActive}
 use Rattle.qc_pair.specs.Pair.{number_at}
 use Rattle.qc_pair.specs.declared.fold.Fold.{Fold}
 use Rattle.qc_pair.specs.declared.kind.Kind.TheVariants as kind
-use Rattle.qc_site.specs.Image.{to_write, AreGranted, AreMadeIn, AreMountableAsCopy}
+use Rattle.qc_site.specs.Image.{to_write, AreGranted, AreMountableAsCopy}
 use Rattle.qc_site.specs.Mounted as copy
 use Rattle.qc_site.specs.Start.{start_of}
 use Rattle.qc_system.specs.Pairs.{own_then_spares}
@@ -46,11 +48,11 @@ use Rattle.qc_system.specs.Parts.{AreMounted, Findings, IsLedger, IsMounted}
 use Rattle.qc_system.specs.declared.parts.CopyPair.{CopyPair}
 
 -- what was mounted of a copy is what was mounted of one with the same disk, which told the same
-mounts_as : (disk disk' : ℕ) (table : Table) (past : Past) (limit : ℕ) (told told' : Option (List ℕ)) (records records' : List (List ℕ)) → disk' ≡ disk → told' ≡ told → records' ≡ records → copy.MountsCopy disk table past limit told records
-    → copy.MountsCopy disk' table past limit told' records'
-mounts_as disk disk' table past limit told told' records records' of_disk of_told of_records m = record {
+mounts_as : (disk disk' : ℕ) (table : Table) (past : Past) (limit format : ℕ) (told told' : Option (List ℕ)) (records records' : List (List ℕ)) → disk' ≡ disk → told' ≡ told → records' ≡ records → copy.MountsCopy disk table past limit format told records
+    → copy.MountsCopy disk' table past limit format told' records'
+mounts_as disk disk' table past limit format told told' records records' of_disk of_told of_records m = record {
   found = m.found;
-  now = subst (λ d. AreMadeIn d table current_format m.found) (sym of_disk) m.now;
+  format_is = m.format_is;
   granted = subst (λ d. AreGranted d table past m.found) (sym of_disk) m.granted;
   fine = subst (λ o. IfSome o (λ bytes. HasRecords m.found bytes × AreMountableAsCopy disk' table past limit m.found)) (sym of_told)
       (subst (λ d. IfSome told (λ bytes. HasRecords m.found bytes × AreMountableAsCopy d table past limit m.found)) (sym of_disk) m.fine);
@@ -151,8 +153,8 @@ module _ {D : Type 0} {g : Ghosts D} (table : Table) (told : List (Option (List 
           spare_told = row_spare (λ d. (g.view d).content) None told store.pairs store.contents (i + 1) disks row_there (table.copies + 1) many_pairs;
           own_counted = row_own (λ d. (g.view d).faults) 0 counts store.pairs store.counted (i + 1) disks row_there;
           spare_counted = row_spare (λ d. (g.view d).faults) 0 counts store.pairs store.counted (i + 1) disks row_there (table.copies + 1) many_pairs;
-          own_later = c.left.own.cause.later;
-          spare_later = c.left.spare.cause.later;
+          own_later = mounted_later g.view table _ (i + 1) _ _ _ _ _ _ c.left.own;
+          spare_later = mounted_later g.view table _ (i + 1) _ _ _ _ _ _ c.left.spare;
           bodies_are = get_next (book.records_of parts.ledger.book) (map (λ p. copy.records_of p.copy) items) i [] ∙ mapped_at (λ p. copy.records_of p.copy) items i pair [] is;
           swapped_is = get_next (swapped_in parts.ledger.fold) (map (λ p. swapped_in p.fold) items) i false ∙ mapped_at (λ p. swapped_in p.fold) items i pair false is;
           active_is = get_next (disk_of (book.journal_of parts.ledger.book)) (map (λ p. disk_of (copy.journal_of p.copy)) items) i (disk_of (book.journal_of parts.ledger.book)) ∙ mapped_at (λ p. disk_of (copy.journal_of p.copy)) items i pair (disk_of (book.journal_of parts.ledger.book)) is;
@@ -269,11 +271,11 @@ module _ {D : Type 0} {g : Ghosts D} (table : Table) (told : List (Option (List 
             all = m.all;
           }
 
-      copy_mounts : (i : ℕ) → i < table.copies → copy.MountsCopy (active_number swapped (i + 1)) table parts.past store.limit (of_active table swapped (told_by told) (i + 1)) (records (i + 1))
+      copy_mounts : (i : ℕ) → i < table.copies → copy.MountsCopy (active_number swapped (i + 1)) table parts.past store.limit current_format (of_active table swapped (told_by told) (i + 1)) (records (i + 1))
       copy_mounts i there =
           let (pair, is, at) = some_copy i there in
           let at_pair = at.at in
-          mounts_as (number_at (swapped_in pair.fold) (i + 1)) (active_number swapped (i + 1)) table parts.past store.limit (if swapped_in pair.fold then (g.view at.disks.1).content else (g.view at.disks.0).content)
+          mounts_as (number_at (swapped_in pair.fold) (i + 1)) (active_number swapped (i + 1)) table parts.past store.limit current_format (if swapped_in pair.fold then (g.view at.disks.1).content else (g.view at.disks.0).content)
           (of_active table swapped (told_by told) (i + 1)) (copy.records_of pair.copy) (records (i + 1)) (ap (λ b. number_at b (i + 1)) at_pair.swapped_is)
           (active_told_is table told parts.ledger items counts (i + 1) pair.fold (copy.journal_of pair.copy) (copy.records_of pair.copy) at.disks at_pair) at_pair.bodies_are at.is_copy.mounts.mounts
 

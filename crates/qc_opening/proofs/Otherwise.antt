@@ -62,7 +62,7 @@ mounted_on disk table other told records epoch base tells m = record {
       record { found = l.found; ledgers = l.ledgers; fine = fine_too _ (other 0) (told 0) (tells 0 (omega arith)) l.fine; past_is = l.past_is; next = l.next; all = l.all };
   copies = λ copy there.
       let c = m.copies copy there in
-      record { found = c.found; now = c.now; granted = c.granted; fine = fine_too _ (other (copy + 1)) (told (copy + 1)) (tells (copy + 1) (omega (arith, there))) c.fine; all = c.all };
+      record { found = c.found; format_is = c.format_is; granted = c.granted; fine = fine_too _ (other (copy + 1)) (told (copy + 1)) (tells (copy + 1) (omega (arith, there))) c.fine; all = c.all };
   as_many = m.as_many;
   starts = m.starts;
 }

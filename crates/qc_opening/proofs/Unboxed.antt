@@ -1,13 +1,15 @@
 -- Disks in places of their own are mounted and left as the disks themselves are.
-use Rattle.std.proofs.Common.{◌≡◌, ℕ, ◌+◌, List, [], ◌∷◌, ◌++◌, length, map, refl, sym, ap, ap₂, ◌∙◌, subst}
+use Rattle.std.proofs.Common.{◌≡◌, ℕ, zero, suc, ◌+◌, inl, inr, ⊎_elim, List, [], ◌∷◌, ◌++◌, length, map, refl, sym, ap, ap₂, ◌∙◌, subst}
 use Rattle.std.specs.Prelude.{Bool, Option}
 use Rattle.std.proofs.lemmas.List.{length-map, map-append}
+use Rattle.qc_codec.specs.declared.past.Past.{Past}
 use Rattle.qc_disk.specs.Disk.{DiskView}
 use Rattle.qc_disk.specs.declared.disk.Disk.{Ghosts}
 use Rattle.qc_event.specs.declared.table.Table.{Table}
+use Rattle.qc_journal.specs.Device.{LosesNoRecord}
 use Rattle.qc_ledger.specs.Pairs.{MountsHalf}
 use Rattle.qc_opening.specs.Boxes.{unboxed, unboxed_pairs}
-use Rattle.qc_opening.specs.Disks.{told_by, IsLeft}
+use Rattle.qc_opening.specs.Disks.{told_by, IsLeft, IsMounted}
 use Rattle.qc_opening.specs.Mounted.{IsStoreOf}
 use Rattle.qc_opening.specs.Numbered.{PairsFrom}
 use Rattle.qc_opening.specs.Parts.{IsStoreOver}
@@ -61,6 +63,16 @@ module _ {D : Type 0} (view : D → DiskView) where
     counts_once = m.counts_once;
   }
 
+  mounted_unboxed : (table : Table) (Tells : Past → Type 0) (pair : ℕ) (told spare_told : Option (List ℕ)) (is_spare : Bool) (Failed : Type 0) (old new : Boxed D) → IsMounted boxed_view table Tells pair told spare_told is_spare Failed old new
+      → IsMounted view table Tells pair told spare_told is_spare Failed old.disk.value new.disk.value
+  mounted_unboxed table Tells zero told spare_told is_spare Failed old new m = half_unboxed _ _ _ _ _ _ _ old new m
+  mounted_unboxed table Tells (suc copy) told spare_told is_spare Failed old new m = record {
+    any_moment = λ tells. let l = m.any_moment tells in record { later = l.later; each = l.each; earlier = l.earlier };
+    grows = λ tells. ⊎_elim (λ (grows : LosesNoRecord boxed_view old new). inl (λ index had. let gr = grows index had in record { from_before = gr.from_before; within = gr.within })) inr (m.grows tells);
+    cause = m.cause;
+    counts_once = m.counts_once;
+  }
+
   module _ (table : Table) (told : ℕ → Option (List ℕ)) (Failed Behind : ℕ → Type 0) where
     each_unboxed : (place : ℕ) (old new : List (Boxed D)) → PairsFrom (IsLeft boxed_view table told Failed Behind) place old new → PairsFrom (IsLeft view table told Failed Behind) place (unboxed old) (unboxed new)
     each_unboxed place [] [] left = tt
@@ -68,7 +80,7 @@ module _ {D : Type 0} (view : D → DiskView) where
     each_unboxed place (o ∷ old) [] left = absurd left
     each_unboxed place (o ∷ old) (n ∷ new) left = (
       record {
-        mounted = half_unboxed _ _ _ _ _ _ _ o n left.0.mounted;
+        mounted = mounted_unboxed table _ _ _ _ _ _ o n left.0.mounted;
         behind = λ behind. ap (λ (b : Boxed D). b.disk.value) (left.0.behind behind);
       },
       each_unboxed (place + 1) old new left.1,

@@ -1,16 +1,18 @@
 -- The disks of a store: where they come from, and what a mounting leaves of each.
-use Rattle.std.specs.Prelude.{ℕ, zero, suc, ◌≡◌, ◌+◌, ◌-◌, Bool, false, true, if◌then◌else◌, nat_lt, List, map, Option, None, slice_index_or}
+use Rattle.std.specs.Prelude.{ℕ, zero, suc, ◌≡◌, ◌+◌, ◌-◌, Bool, false, true, if◌then◌else◌, nat_lt, List, [], ◌∷◌, map, Option, None, slice_index_or}
 use Rattle.std.specs.List.{range_with_len}
+use Rattle.qc_codec.specs.Ledger.{past_in}
+use Rattle.qc_codec.specs.declared.past.Past.{Past}
 use Rattle.qc_disk.specs.Disk.{DiskView}
 use Rattle.qc_disk.specs.Shop.{Tells}
 use Rattle.qc_event.specs.declared.table.Table.{Table}
 use Rattle.qc_ledger.specs.Image as ledger
 use Rattle.qc_ledger.specs.Pairs.{MountsHalf}
 use Rattle.qc_opening.specs.Numbered.{EachFrom}
+use Rattle.qc_pair.specs.Opening.{HaveActive}
 use Rattle.qc_pair.specs.Pair.{number_at}
-use Rattle.qc_pair.specs.declared.kind.Kind.{Kind}
 use Rattle.qc_pair.specs.declared.kind.Kind.TheVariants as kind
-use Rattle.qc_site.specs.Image as site
+use Rattle.qc_site.specs.Renewal.{MountsCopyHalf}
 
 -- PLACES AND NUMBERS
 
@@ -40,15 +42,9 @@ first_numbers copies many = map (number_of copies) (range_with_len 0 many)
 
 -- THE PAIRS
 
--- pair 0 is the ledger's, and each next one a copy's
-abbrev pub kind_of : ℕ → Kind
-kind_of zero = kind.Ledger
-kind_of (suc copy) = kind.Copy
-
--- what the mounting of a pair writes on its active disk, of this number, behind the bodies that it finds
-abbrev pub to_write : Table → ℕ → ℕ → (List (List ℕ) → List (List ℕ))
-to_write table zero number = ledger.to_write number table
-to_write table (suc copy) number = site.to_write number table
+-- the active bodies of the ledger's pair, which told this, tell a past
+abbrev pub TellsPast : Option (List ℕ) → Option (List ℕ) → Past → Type 0
+TellsPast told spare_told past = (is_spare : Bool) × (found : List (List ℕ)) × HaveActive kind.Ledger 0 told spare_told is_spare found × (past ≡ past_in found)
 
 -- what the disk of a place told, where they told this
 abbrev pub told_by : {A : Type 0} → List (Option A) → ℕ → Option A
@@ -63,17 +59,24 @@ module _ {D : Type 0} (view : D → DiskView) where
   abbrev pub AreCounted : (ℕ → ℕ) → ℕ → List D → Type 0
   AreCounted counts place disks = EachFrom (λ n disk. (view disk).faults ≡ counts n) place disks
 
-  -- one of a pair's disks, which told this, was mounted, and it is the one that failed, or is not
-  abbrev pub IsMounted : Table → ℕ → Option (List ℕ) → Option (List ℕ) → Bool → Type 0 → D → D → Type 0
-  IsMounted table pair told spare_told is_spare Failed old new = MountsHalf (kind_of pair) pair told spare_told (to_write table pair) is_spare view Failed old new
+  -- one of a pair's disks, which told this, was mounted behind a past of which this holds, and it is the one that failed, or is
+  -- not; pair 0 is the ledger's, and each next one a copy's
+  abbrev pub IsMounted : Table → (Past → Type 0) → ℕ → Option (List ℕ) → Option (List ℕ) → Bool → Type 0 → D → D → Type 0
+  IsMounted table Tells zero told spare_told is_spare Failed old new = MountsHalf kind.Ledger 0 told spare_told (λ number. ledger.to_write number table) is_spare view Failed old new
+  IsMounted table Tells (suc copy) told spare_told is_spare Failed old new = MountsCopyHalf copy table told spare_told Tells is_spare view Failed old new
+
+  -- the first of pairs of disks, which is the ledger's, tells a past
+  abbrev pub FirstTells : List (D × D) → Past → Type 0
+  FirstTells [] past = ⊥
+  FirstTells (disks ∷ more) past = TellsPast (view disks.0).content (view disks.1).content past
 
   -- A pair of disks, the disk first, was mounted, or it was not reached and is as it was.
-  pub record IsPairLeft (table : Table) (Failed Behind : ℕ → Type 0) (pair : ℕ) (old new : D × D) : Type 0 where
-    pub own : IsMounted table pair (view old.0).content (view old.1).content false (Failed pair) old.0 new.0
-    pub spare : IsMounted table pair (view old.0).content (view old.1).content true (Failed (pair + 17)) old.1 new.1
+  pub record IsPairLeft (table : Table) (Tells : Past → Type 0) (Failed Behind : ℕ → Type 0) (pair : ℕ) (old new : D × D) : Type 0 where
+    pub own : IsMounted table Tells pair (view old.0).content (view old.1).content false (Failed pair) old.0 new.0
+    pub spare : IsMounted table Tells pair (view old.0).content (view old.1).content true (Failed (pair + 17)) old.1 new.1
     pub behind : Behind pair → new ≡ old
 
   -- The disk at a place was mounted in its pair, where those at all places told this, or it was not reached and is as it was.
   pub record IsLeft (table : Table) (told : ℕ → Option (List ℕ)) (Failed Behind : ℕ → Type 0) (place : ℕ) (old new : D) : Type 0 where
-    pub mounted : IsMounted table (pair_at table.copies place) (told (pair_at table.copies place)) (told (table.copies + 1 + pair_at table.copies place)) (is_spare_at table.copies place) (Failed (number_of table.copies place)) old new
+    pub mounted : IsMounted table (TellsPast (told 0) (told (table.copies + 1 + 0))) (pair_at table.copies place) (told (pair_at table.copies place)) (told (table.copies + 1 + pair_at table.copies place)) (is_spare_at table.copies place) (Failed (number_of table.copies place)) old new
     pub behind : Behind (pair_at table.copies place) → new ≡ old

@@ -15,25 +15,25 @@ use Rattle.qc_pair.specs.declared.fault.PairNo.TheVariants.{Image}
 use Rattle.qc_pair.specs.declared.kind.Kind.{Kind}
 use Rattle.qc_pair.specs.declared.kind.Kind.TheVariants as kind
 use Rattle.qc_refine.specs.Pairs.{image_of, spare_image}
-use Rattle.qc_site.specs.Image.{AreMountableAsCopy}
 use Rattle.qc_site.specs.Pairs.{IsCopyPairNo}
+use Rattle.qc_site.specs.Renewal.{AreMountableInPair}
 
 -- A shop that offers this by the disks' numbers offers these images, one for each place of a store.
 pub record Offers (table : Table) (offers : ℕ → Option (List ℕ)) (images : List (List ℕ)) : Type 0 where
   pub each : EachFrom (λ place image. by_place table.copies offers place ≡ Some image) 0 images
   pub all : length images ≡ all_places table.copies
 
--- Of the images of a pair, the disk's and the spare's, one is active, on the disk of some number, and its bodies are fine there.
-pub record IsSoundPair (kind : Kind) (pair : ℕ) (Fine : ℕ → List (List ℕ) → Type 0) (images : List ℕ × List ℕ) : Type 0 where
+-- Of the images of a pair, the disk's and the spare's, one is active, and its bodies are fine there.
+pub record IsSoundPair (kind : Kind) (pair : ℕ) (Fine : Bool → List (List ℕ) → Type 0) (images : List ℕ × List ℕ) : Type 0 where
   pub is_spare : Bool
   pub found : List (List ℕ)
   pub have : HaveActive kind pair (Some images.0) (Some images.1) is_spare found
-  pub fine : Fine (number_at is_spare pair) found
+  pub fine : Fine is_spare found
 
 module _ (table : Table) (limit : ℕ) where
   -- the images of a copy's pair, behind a ledger's past, have no fault
   abbrev pub IsSoundCopy : Past → ℕ → List ℕ × List ℕ → Type 0
-  IsSoundCopy past copy images = IsSoundPair kind.Copy (copy + 1) (λ disk found. AreMountableAsCopy disk table past limit found) images
+  IsSoundCopy past copy images = IsSoundPair kind.Copy (copy + 1) (λ is_spare found. AreMountableInPair table past limit copy is_spare found) images
 
   -- the first fault of the images of copies' pairs from a copy on, behind a ledger's past
   abbrev pub IsCopiesFault : Past → BadImage → ℕ → List (List ℕ × List ℕ) → Type 0
@@ -44,7 +44,7 @@ module _ (table : Table) (limit : ℕ) where
 
   -- the images of the ledger's pair have no fault, and tell a past behind which it is so
   abbrev pub IsSoundLedger : (Past → Type 0) → List ℕ × List ℕ → Type 0
-  IsSoundLedger Behind images = IsSoundPair kind.Ledger 0 (λ disk found. AreMountableAsLedger disk table limit found × Behind (past_in found)) images
+  IsSoundLedger Behind images = IsSoundPair kind.Ledger 0 (λ is_spare found. AreMountableAsLedger (number_at is_spare 0) table limit found × Behind (past_in found)) images
 
   -- the first fault of the images of pairs, the ledger's first and then each copy's
   abbrev pub IsFirstInPairs : BadImage → List (List ℕ × List ℕ) → Type 0

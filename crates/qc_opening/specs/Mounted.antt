@@ -1,13 +1,10 @@
 -- What the mounting of a store gives.
-use Rattle.std.specs.Prelude.{ℕ, ◌≡◌, ◌+◌, false, true, not, List, ◌∷◌, ◌++◌, length}
+use Rattle.std.specs.Prelude.{ℕ, ◌≡◌, ◌+◌, false, true, not, List, ◌∷◌, ◌++◌}
 use Rattle.qc_disk.specs.Disk.{DiskView}
 use Rattle.qc_disk.specs.declared.disk.Disk.{Ghosts}
-use Rattle.qc_codec.specs.Base.{base_in, copy_base, tuples_of_base}
-use Rattle.qc_codec.specs.Copy.{granted_in}
-use Rattle.qc_codec.specs.Restored.{restored_row}
+use Rattle.qc_codec.specs.Fields.{current_format}
 use Rattle.qc_codec.specs.declared.past.Past.{Past}
 use Rattle.qc_event.specs.declared.table.Table.{Table}
-use Rattle.qc_desk.specs.Held.{from_row}
 use Rattle.qc_journal.specs.Journal.{disk_of, limit_of, IsUp}
 use Rattle.qc_ledger.specs.Image as tops
 use Rattle.qc_ledger.specs.Mounted as book
@@ -19,15 +16,16 @@ use Rattle.qc_pair.specs.Fold.{own_disk, spare_disk, swapped_in, IsFoldFor}
 use Rattle.qc_pair.specs.Pair.{number_at}
 use Rattle.qc_site.specs.Image as grants
 use Rattle.qc_site.specs.Mounted as copy
-use Rattle.qc_site.specs.Pairs.{MountsCopyPair}
+use Rattle.qc_site.specs.Pairs.{FindsCopyPair}
+use Rattle.qc_site.specs.Renewal.{restored_in}
 use Rattle.qc_site.specs.Start.{start_of}
 use Rattle.qc_system.specs.declared.parts.CopyPair.{CopyPair}
 use Rattle.qc_system.specs.declared.parts.LedgerPair.{LedgerPair}
 
 -- Both disks of a pair were mounted, and neither failed.
-pub record AreMounted {D : Type 0} (view : D → DiskView) (table : Table) (pair : ℕ) (old new : D × D) : Type 0 where
-  pub own : IsMounted view table pair (view old.0).content (view old.1).content false ⊥ old.0 new.0
-  pub spare : IsMounted view table pair (view old.0).content (view old.1).content true ⊥ old.1 new.1
+pub record AreMounted {D : Type 0} (view : D → DiskView) (table : Table) (Tells : Past → Type 0) (pair : ℕ) (old new : D × D) : Type 0 where
+  pub own : IsMounted view table Tells pair (view old.0).content (view old.1).content false ⊥ old.0 new.0
+  pub spare : IsMounted view table Tells pair (view old.0).content (view old.1).content true ⊥ old.1 new.1
 
 module _ {D : Type 0} {g : Ghosts D} where
   -- the disk of a pair that was mounted, and its spare
@@ -43,18 +41,18 @@ module _ {D : Type 0} {g : Ghosts D} where
       pub mounts : MountsLedgerPair table limit (g.view disks.0).content (g.view disks.1).content ledger.book ledger.fold past epoch
       pub limit_is : limit_of (book.journal_of ledger.book) ≡ limit
       pub folds : IsFoldFor ledger.fold limit (tops.made_body (number_at (not (swapped_in ledger.fold)) 0) table) epoch table.copies
-      pub left : AreMounted g.view table 0 disks (ledger_disks ledger)
+      pub left : AreMounted g.view table (λ p. p ≡ past) 0 disks (ledger_disks ledger)
 
     -- A copy was mounted from a pair of disks, behind a past and for an epoch: it starts with what its records restore.
     pub record IsCopy (past : Past) (epoch limit number : ℕ) (disks : D × D) (pair : CopyPair D g) : Type 0 where
-      pub mounts : MountsCopyPair number table past limit (g.view disks.0).content (g.view disks.1).content pair.copy pair.fold
+      pub mounts : FindsCopyPair number table past limit current_format (g.view disks.0).content (g.view disks.1).content pair.copy pair.fold
       pub number_is : copy.copy_of pair.copy ≡ number
       pub copies : copy.copies_of pair.copy ≡ table.copies
       pub limit_is : limit_of (copy.journal_of pair.copy) ≡ limit
       pub up : IsUp (copy.journal_of pair.copy)
-      pub start : start_of pair.copy ≡ restored_row past.tops (length table.records) (from_row (tuples_of_base table (base_in copy_base (copy.records_of pair.copy)))) (granted_in table (copy.records_of pair.copy))
+      pub start : start_of pair.copy ≡ restored_in past.tops table (copy.records_of pair.copy)
       pub folds : IsFoldFor pair.fold limit (grants.made_body (number_at (not (swapped_in pair.fold)) (number + 1)) table) epoch table.copies
-      pub left : AreMounted g.view table (number + 1) disks (copy_disks pair)
+      pub left : AreMounted g.view table (λ p. p ≡ past) (number + 1) disks (copy_disks pair)
 
     -- copies were mounted from pairs of disks, one from each, in rising number from 0
     abbrev pub AreCopies : Past → ℕ → ℕ → List (D × D) → List (CopyPair D g) → Type 0

@@ -1,28 +1,22 @@
 -- What the mountings of a store's disks found: at place 0 stands one of the ledger's, at place c + 1 one of copy c's.
-use Rattle.std.specs.Prelude.{ℕ, ◌≡◌, ◌+◌, ◌<◌, ◌≤◌, ◌^◌, ◌⊎◌, List, [], length, map, slice_index_or, All, Option, IfSome, IsSome}
+use Rattle.std.specs.Prelude.{ℕ, ◌≡◌, ◌+◌, ◌<◌, ◌≤◌, ◌^◌, ◌⊎◌, List, [], length, map, slice_index_or, Option, IfSome, IsSome}
 use Rattle.qc_config.specs.Val.{Datum}
-use Rattle.qc_codec.specs.Base.{base_in, copy_base, tuples_of_base}
 use Rattle.qc_codec.specs.Bodies as body
-use Rattle.qc_codec.specs.Copy.{granted_in}
 use Rattle.qc_codec.specs.Fields.{current_format}
-use Rattle.qc_codec.specs.Restored.{restored_row}
 use Rattle.qc_codec.specs.declared.past.Logged.{Logged}
 use Rattle.qc_codec.specs.declared.past.Past.{Past as Logs}
 use Rattle.qc_config.specs.declared.tuple.Tuple.{Tuple}
 use Rattle.qc_event.specs.declared.table.Table.{Table}
 use Rattle.qc_event.specs.History.{Past}
 use Rattle.qc_event.specs.Tables.{first_tuple, setting_of}
-use Rattle.qc_desk.specs.Held.{from_row}
 use Rattle.qc_journal.specs.Image.{HasRecords}
 use Rattle.qc_ledger.specs.Mounted as ledger
 use Rattle.qc_refine.specs.Images.{CarryFinal, IsCopyImage}
 use Rattle.qc_refine.specs.Standing.{AreNext, committed_too}
+use Rattle.qc_site.specs.Image.{AreBytes}
 use Rattle.qc_site.specs.Mounted as copies
+use Rattle.qc_site.specs.Renewal.{restored_in}
 use Rattle.qc_system.specs.Left.{KeepsGrants, KeepsTops}
-
--- each number of these bodies is a byte
-abbrev pub AreBytes : List (List ℕ) → Type 0
-AreBytes bodies = All (λ (bytes : List ℕ). All (λ (byte : ℕ). byte < 256) bytes) bodies
 
 -- Of each disk one image, which tells what the disk keeps of a history behind these records.
 pub record AreKept (table : Table) (base : List (List Tuple)) (records : ℕ → List (List ℕ)) (past : Past) (images : List (List ℕ)) : Type 0 where
@@ -55,10 +49,10 @@ module _ (disk : ℕ → ℕ) where
     pub small : epoch < 2 ^ 32
     pub bytes : (place : ℕ) → place ≤ table.copies → AreBytes (records place)
     pub ledger : ledger.MountsLedger (disk 0) table (limit 0) (told 0) (records 0) past epoch
-    pub copies : (copy : ℕ) → copy < table.copies → copies.MountsCopy (disk (copy + 1)) table past (limit (copy + 1)) (told (copy + 1)) (records (copy + 1))
+    pub copies : (copy : ℕ) → copy < table.copies → copies.MountsCopy (disk (copy + 1)) table past (limit (copy + 1)) current_format (told (copy + 1)) (records (copy + 1))
     pub as_many : length base ≡ table.copies
     pub starts : (copy : ℕ) → copy < table.copies
-        → slice_index_or base copy [] ≡ restored_row past.tops (length table.records) (from_row (tuples_of_base table (base_in copy_base (records (copy + 1))))) (granted_in table (records (copy + 1)))
+        → slice_index_or base copy [] ≡ restored_in past.tops table (records (copy + 1))
 
   -- The copies' disks told images on which no grant stands: they were empty, or of a store that was just made.
   abbrev pub HaveNoGrantsOn : Table → (ℕ → Option (List ℕ)) → Type 0

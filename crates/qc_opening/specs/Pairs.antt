@@ -1,11 +1,12 @@
 -- What the mountings of a store's pairs of disks found: pair 0 is the ledger's, pair c + 1 copy c's. What is of the disk of pair n
 -- stands at place n, and what is of its spare at place copies + 1 + n.
-use Rattle.std.specs.Prelude.{ℕ, ◌≡◌, ◌+◌, ◌<◌, ◌⊎◌, Bool, true, false, not, if◌then◌else◌, List, [], ◌∷◌, length, map, Option}
+use Rattle.std.specs.Prelude.{ℕ, ◌≡◌, ◌+◌, ◌<◌, ◌⊎◌, Bool, true, false, not, if◌then◌else◌, List, [], ◌∷◌, length, map, Option, Some}
 use Rattle.std.specs.List.{range_with_len}
-use Rattle.qc_codec.specs.Base.{copy_base, is_swapped, ledger_base}
+use Rattle.qc_codec.specs.Base.{active, copy_base, current_copy_base, is_swapped, ledger_base}
 use Rattle.qc_codec.specs.Bodies as body
 use Rattle.qc_codec.specs.Form.{Form}
-use Rattle.qc_codec.specs.Ledger.{made_for}
+use Rattle.qc_codec.specs.Ledger.{made_for, past_in}
+use Rattle.qc_codec.specs.declared.past.Past.{Past as Logs}
 use Rattle.qc_codec.specs.declared.record.BaseRecord.{BaseRecord}
 use Rattle.qc_codec.specs.declared.record.Made.{Made}
 use Rattle.qc_config.specs.declared.tuple.Tuple.{Tuple}
@@ -17,6 +18,7 @@ use Rattle.qc_journal.specs.Image.{HasRecords}
 use Rattle.qc_ledger.specs.Image as tops
 use Rattle.qc_ledger.specs.Runs.{HasOrMore}
 use Rattle.qc_opening.specs.Mountings.{AreKept, HaveNoGrantsOn, IsCutOff, MountedOn}
+use Rattle.qc_pair.specs.Folding.{IsFolding}
 use Rattle.qc_pair.specs.Front.{current_base, number_in}
 use Rattle.qc_pair.specs.Opening.{HaveActive}
 use Rattle.qc_pair.specs.Pair.{number_at}
@@ -25,6 +27,7 @@ use Rattle.qc_pair.specs.declared.kind.Kind.TheVariants as kind
 use Rattle.qc_refine.specs.Folded.{seen_row}
 use Rattle.qc_refine.specs.Pairs.{image_of, spare_image, IsFoldedCopy, IsFoldedLedger, TellsCopy, TellsLedger}
 use Rattle.qc_site.specs.Image as grants
+use Rattle.qc_site.specs.Renewal.{renewed_base, renewed_body}
 
 -- ONE OF EACH PAIR
 
@@ -135,12 +138,24 @@ pub record IsPairCutOff (form : Made → Form BaseRecord) (pair : ℕ) (written 
   pub spare : IsCutOff (λ found. if is_spare then written (number_at true pair) found else []) image' later'
   pub swapped_is : is_spare ≡ is_swapped form own.found spare.found
 
--- The images of each pair are left so of others.
+-- The images of a copy's pair are left of others by a mounting that was cut off while it folded the active one into the other, behind
+-- a past: the active one has the same records, and the other one those that it had, none, the first of two others, or both.
+pub record IsFoldCutOff (table : Table) (past : Logs) (copy : ℕ) (image image' later later' : List ℕ) : Type 0 where
+  pub is_spare : Bool
+  pub found : List (List ℕ)
+  pub have : HaveActive kind.Copy (copy + 1) (Some image) (Some image') is_spare found
+  pub made_fits : body.made.fits (made_for (number_at (not is_spare) (copy + 1)) table)
+  pub base_fits : (current_copy_base table).fits (renewed_base table past found)
+  pub same : HasRecords found (if is_spare then later' else later)
+  pub folding : IsFolding (if is_spare then have.own else have.spare) (grants.made_body (number_at (not is_spare) (copy + 1)) table) (renewed_body table past found) (if is_spare then later else later')
+
+-- The images of each pair are left so of others, a copy's behind the past that the ledger's tell.
 pub record AreCutOffInPairs (table : Table) (images later : List (List ℕ)) : Type 0 where
   pub as_many : length later ≡ table.copies + 1 + (table.copies + 1)
   pub ledger : IsPairCutOff ledger_base 0 (λ number. tops.to_write number table) (image_of table images 0) (spare_image table images 0) (image_of table later 0) (spare_image table later 0)
   pub copies : (copy : ℕ) → copy < table.copies
       → IsPairCutOff copy_base (copy + 1) (λ number. grants.to_write number table) (image_of table images (copy + 1)) (spare_image table images (copy + 1)) (image_of table later (copy + 1)) (spare_image table later (copy + 1))
+      ⊎ IsFoldCutOff table (past_in (active ledger_base ledger.own.found ledger.spare.found)) copy (image_of table images (copy + 1)) (spare_image table images (copy + 1)) (image_of table later (copy + 1)) (spare_image table later (copy + 1))
 
 -- Mountings one after another were cut off, which left these images in turn, and then the last ones.
 abbrev pub AreLeftInPairs : Table → List (List ℕ) → List (List (List ℕ)) → List (List ℕ) → Type 0

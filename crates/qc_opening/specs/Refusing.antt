@@ -3,6 +3,7 @@ use Rattle.std.specs.Prelude.{ℕ, ◌≡◌, ◌+◌, ◌-◌, ◌<◌, ◌≤�
 use Rattle.qc_disk.specs.Disk.{DiskView}
 use Rattle.qc_event.specs.declared.table.Table.{Table}
 use Rattle.qc_codec.specs.declared.image.BadImage.{BadImage}
+use Rattle.qc_codec.specs.declared.past.Past.{Past}
 use Rattle.qc_opening.specs.Disks.{all_places, by_place, told_by, AreCounted, AreOffered, IsLeft, IsPairLeft}
 use Rattle.qc_opening.specs.Images.{IsFirstFault}
 use Rattle.qc_opening.specs.Numbered.{PairsFrom}
@@ -49,9 +50,9 @@ IsReasonAmong least most P (Image bad) = IsAmong least most bad.disk × P bad
 IsReasonAmong least most P Memory = Unit {0}
 
 module _ {D : Type 0} (view : D → DiskView) where
-  -- pairs of disks from one on are left by a mounting that was refused for this reason
-  abbrev pub ArePairsLeft : Table → PairNo → ℕ → List (D × D) → List (D × D) → Type 0
-  ArePairsLeft table reason pair old new = PairsFrom (IsPairLeft view table (FailedAt reason) (IsBehind reason)) pair old new
+  -- pairs of disks from one on are left by a mounting, behind a past of which this holds, that was refused for this reason
+  abbrev pub ArePairsLeft : Table → (Past → Type 0) → PairNo → ℕ → List (D × D) → List (D × D) → Type 0
+  ArePairsLeft table Tells reason pair old new = PairsFrom (IsPairLeft view table Tells (FailedAt reason) (IsBehind reason)) pair old new
 
   -- so are all disks of a store, one at each place
   abbrev pub AreLeft : Table → PairNo → List D → List D → Type 0

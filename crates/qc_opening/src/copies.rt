@@ -38,7 +38,8 @@ fn mount_copy<D: Disk>(
         (λ disks. IsCopy table.now past.now epoch limit copy disks mounted)
         (waiting_in waiting.old) (waiting_in waiting.new)) }
     ensures refused { IfErr result (λ no. GoesBack (λ before after.
-        IsPairLeft D.view table.now (FailedAt no) (IsBehind no) (copy + 1) before after
+        IsPairLeft D.view table.now (λ p. p ≡ past.now) (FailedAt no) (IsBehind no) (copy + 1)
+        before after
         × IsCopyPairNo copy table.now past.now limit (D.view before.0).content
         (D.view before.1).content no)
         (waiting_in waiting.old) (waiting_in waiting.new)) }
@@ -85,7 +86,7 @@ pub(crate) fn mount_copies<D: Disk>(
     ensures none { IfOk result (λ copies. waiting_in waiting.new ≡ []) }
     ensures copies { IfOk result (λ copies. AreCopies table.now past.now epoch limit
         (waiting_in waiting.old) copies.items) }
-    ensures left { IfErr result (λ no. ArePairsLeft D.view table.now no 1
+    ensures left { IfErr result (λ no. ArePairsLeft D.view table.now (λ p. p ≡ past.now) no 1
         (waiting_in waiting.old) (waiting_in waiting.new)) }
     ensures reason { IfErr result (IsReasonAmong 1 table.now.copies
         (λ bad. (images : List (List ℕ × List ℕ))

@@ -3,7 +3,7 @@ ghost use Rattle.std.specs.Prelude.{ℕ, ◌≡◌, ◌<◌, ◌≤◌, length, 
 ghost use Rattle.qc_codec.specs.Bodies as body;
 ghost use Rattle.qc_codec.specs.Fields.{current_format};
 ghost use Rattle.qc_ledger.specs.Pairs.{IsLedgerPairNo};
-ghost use Rattle.qc_opening.specs.Disks.{IsPairLeft};
+ghost use Rattle.qc_opening.specs.Disks.{FirstTells, IsPairLeft};
 ghost use Rattle.qc_opening.specs.Mounted.{IsLedger};
 ghost use Rattle.qc_opening.specs.Refusing.{FailedAt, IsBehind};
 ghost use Rattle.qc_opening.specs.Waiting.{waiting_in, GoesBack, HasRoom, IsTaken};
@@ -31,7 +31,8 @@ pub(crate) fn mount_ledger<D: Disk>(
         (λ disks. IsLedger table.now limit disks mounted.0 mounted.1 mounted.2)
         (waiting_in waiting.old) (waiting_in waiting.new)) }
     ensures refused { IfErr result (λ no. GoesBack (λ before after.
-        IsPairLeft D.view table.now (FailedAt no) (IsBehind no) 0 before after
+        IsPairLeft D.view table.now (FirstTells D.view (waiting_in waiting.old)) (FailedAt no)
+        (IsBehind no) 0 before after
         × IsLedgerPairNo table.now limit (D.view before.0).content (D.view before.1).content no)
         (waiting_in waiting.old) (waiting_in waiting.new)) }
     ensures room { (pairs : ℕ) → HasRoom pairs waiting.old → HasRoom pairs waiting.new }

@@ -3,7 +3,6 @@
 #![tactic(auto)]
 
 mod boxing;
-mod bytes;
 mod copies;
 mod law;
 mod ledger;

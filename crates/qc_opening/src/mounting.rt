@@ -2,7 +2,7 @@
 ghost use Rattle.std.specs.Prelude.{ℕ, ◌≡◌, ◌+◌, ◌≤◌, List, [], length, IfOk, IfErr, OnOk};
 ghost use Rattle.qc_codec.specs.Bodies as body;
 ghost use Rattle.qc_codec.specs.Fields.{current_format};
-ghost use Rattle.qc_opening.specs.Disks.{all_places};
+ghost use Rattle.qc_opening.specs.Disks.{all_places, FirstTells};
 ghost use Rattle.qc_opening.specs.Images.{IsFirstFault, IsFirstInPairs};
 ghost use Rattle.qc_opening.specs.Mounted.{IsStoreOf};
 ghost use Rattle.qc_opening.specs.Refusing.{disks_in, reason_in, AreLeft, ArePairsLeft, IsReasonAmong, TellImages, TellInPairs};
@@ -32,8 +32,9 @@ fn mount_all<D: Disk>(
     requires room { HasRoom (length (waiting_in waiting.old)) waiting.old }
     ensures none { OnOk result (waiting_in waiting.new ≡ []) }
     ensures store { IfOk result (IsStoreOf table.now limit (waiting_in waiting.old)) }
-    ensures left { IfErr result (λ no. ArePairsLeft D.view table.now no 0
-        (waiting_in waiting.old) (waiting_in waiting.new)) }
+    ensures left { IfErr result (λ no. ArePairsLeft D.view table.now
+        (FirstTells D.view (waiting_in waiting.old)) no 0 (waiting_in waiting.old)
+        (waiting_in waiting.new)) }
     ensures reason { IfErr result (IsReasonAmong 0 table.now.copies
         (λ bad. (images : List (List ℕ × List ℕ))
         → TellInPairs D.view (waiting_in waiting.old) images

@@ -23,7 +23,6 @@ ghost use Rattle.qc_system.specs.Pairs.{pairs_in};
 ghost use Rattle.qc_system.specs.Parts.{AreMounted, IsLedger};
 
 use crate::boxing::box_all;
-use crate::bytes::are_bytes;
 use crate::mount_no::MountNo;
 use crate::mounting::mount_disks;
 use crate::refusing::{take_apart, unbox_refusal};
@@ -35,6 +34,7 @@ use qc_gate::Gate;
 use qc_interp::Mode;
 use qc_script::Script;
 use qc_session::{Ended, run_sessions};
+use qc_site::are_bytes;
 use qc_system::{Boxed, Mounting, Parts, System};
 use std::alloc::Global;
 use std::marker::Brand;

@@ -3,13 +3,13 @@ ghost use Rattle.std.specs.Prelude.{◌≡◌, ◌≤◌, All, map, IfOk};
 ghost use Rattle.qc_ledger.specs.Mounted as book;
 ghost use Rattle.qc_site.specs.Mounted.{records_of};
 ghost use Rattle.qc_site.specs.Start.{start_of};
-ghost use Rattle.qc_opening.specs.Mountings.{AreBytes};
+ghost use Rattle.qc_site.specs.Image.{AreBytes};
 
-use crate::bytes::are_bytes;
 use qc_config::Tuple;
 use qc_desk::Blank;
 use qc_disk::Disk;
 use qc_event::Base;
+use qc_site::are_bytes;
 use qc_system::CopyPair;
 use std::alloc::{AllocError, Global};
 

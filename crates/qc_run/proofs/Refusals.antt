@@ -2,10 +2,11 @@
 use Rattle.std.proofs.Common.{ℕ, ◌≡◌, ◌+◌, ◌-◌, ◌<◌, ◌≤◌, zero, suc, Bool, true, List, [], ◌∷◌, length, refl, sym, subst, inl, inr, arith, ap, ◌∙◌}
 use Rattle.std.specs.Prelude.{◌⊎◌, if◌then◌else◌, nat_lt, slice_get, Option, Some}
 use Rattle.std.proofs.lemmas.Bool.{le-ltb, lt-ltb}
-use Rattle.qc_disk.specs.Disk.{DiskView, Rose}
+use Rattle.qc_codec.specs.declared.past.Past.{Past}
+use Rattle.qc_disk.specs.Disk.{DiskView, HasCause, Rose}
 use Rattle.qc_disk.specs.Shop.{ShopView as Shop}
 use Rattle.qc_event.specs.declared.table.Table.{Table}
-use Rattle.qc_opening.specs.Disks.{all_places, by_place, number_of, AreCounted, IsLeft}
+use Rattle.qc_opening.specs.Disks.{all_places, by_place, number_of, AreCounted, IsLeft, IsMounted}
 use Rattle.qc_opening.specs.Images.{Offers}
 use Rattle.qc_opening.specs.Numbered.{PairsFrom}
 use Rattle.qc_opening.specs.Obtained.{IsNotGiven}
@@ -41,6 +42,11 @@ has_place copies which (inr spare) =
     (copies + 1 + (which - 17), spare_number copies (which - 17) which is, omega (arith, spare.0, spare.1))
 
 module _ {D : Type 0} (view : D → DiskView) where
+  -- where a disk that was mounted failed, its count has risen
+  cause_of : (table : Table) (Tells : Past → Type 0) (pair : ℕ) (told spare_told : Option (List ℕ)) (is_spare : Bool) (Failed : Type 0) (old new : D) → IsMounted view table Tells pair told spare_told is_spare Failed old new → HasCause (view old).faults (view new).faults Failed
+  cause_of table Tells zero told spare_told is_spare Failed old new mounted = mounted.cause
+  cause_of table Tells (suc copy) told spare_told is_spare Failed old new mounted = mounted.cause
+
   -- the count of the disk that failed has risen, where it stands at this place
   failed_at : (table : Table) (told : ℕ → Option (List ℕ)) (counts : ℕ → ℕ) (which place at k : ℕ) (Behind : ℕ → Type 0) (given back : List D) → AreCounted view (by_place table.copies counts) at given
       → PairsFrom (IsLeft view table told (λ n. n ≡ which) Behind) at given back → which ≡ number_of table.copies place → at + k ≡ place → k < length back → (disk : D) × (slice_get back k ≡ Some disk) × Rose (counts which) (view disk).faults
@@ -49,7 +55,7 @@ module _ {D : Type 0} (view : D → DiskView) where
   failed_at table told counts which place at zero Behind (d ∷ given) (b ∷ back) counted pairs is to there =
       let same : at ≡ place = omega arith in
       let here : number_of table.copies at ≡ which = ap (number_of table.copies) same ∙ sym is in
-      (b, refl, subst (λ n. Rose n (view b).faults) (counted.0 ∙ ap counts here) (pairs.0.mounted.cause.failed here))
+      (b, refl, subst (λ n. Rose n (view b).faults) (counted.0 ∙ ap counts here) ((cause_of table _ _ _ _ _ _ d b pairs.0.mounted).failed here))
   failed_at table told counts which place at (suc k) Behind (d ∷ given) (b ∷ back) counted pairs is to there = failed_at table told counts which place (at + 1) k Behind given back counted.1 pairs.1 is (omega arith) (omega arith)
 
   module _ (s : ScriptPlan) (shop : Shop) (place : List ℕ) (now : ℕ) where

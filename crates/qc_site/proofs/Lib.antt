@@ -1,6 +1,12 @@
 mod Accesses
 mod GrantFits
 mod HeldFits
+pub mod OfBytes
+pub mod RestoredFit
+mod Renewals
+pub mod PairRenewals
+mod RenewedPair
+mod RenewedHalves
 mod Rests
 mod Faults
 mod PairMounts

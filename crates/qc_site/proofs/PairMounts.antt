@@ -2,7 +2,7 @@
 use Rattle.std.proofs.Common.{◌≡◌, inl, ℕ, ◌+◌, List, ◌++◌, refl, sym, ap, ◌∙◌, subst}
 use Rattle.std.specs.Prelude.{◌↔◌, Bool, true, false, not, Option, IsSome, Result, Ok, Err, IfErr, if◌then◌else◌}
 use Rattle.std.specs.Result.{IsErrAnd, IsErrOf}
-use Rattle.qc_codec.specs.Fields.{current_format}
+use Rattle.qc_codec.specs.Base.{format_in}
 use Rattle.qc_codec.specs.declared.image.ImageFault.{ImageFault}
 use Rattle.qc_codec.specs.declared.past.Past.{Past}
 use Rattle.qc_disk.specs.declared.disk.Disk.{Ghosts}
@@ -11,7 +11,7 @@ use Rattle.qc_event.specs.declared.table.Table.{Table}
 use Rattle.qc_journal.specs.Journal.{Keeps}
 use Rattle.qc_ledger.proofs.Halves.{active_failed, active_fault, fine_told, opened_half, LeavesHalf}
 use Rattle.qc_pair.specs.Fold.{active_number, other_in, swapped_in}
-use Rattle.qc_pair.specs.Opening.{active_told, HaveActive, IsPairRefusal, MountsDisk, OpensPair}
+use Rattle.qc_pair.specs.Opening.{active_told, HaveActive, IsMountNo, IsPairRefusal, MountsDisk, OpensPair}
 use Rattle.qc_pair.specs.Pair.{active_of, number_at, number_of, other_of, swapped}
 use Rattle.qc_pair.specs.declared.fault.PairNo.{PairNo}
 use Rattle.qc_pair.specs.declared.fault.PairNo.TheVariants as no
@@ -19,9 +19,9 @@ use Rattle.qc_pair.specs.declared.fold.Fold.{Fold}
 use Rattle.qc_pair.specs.declared.kind.Kind.TheVariants as kind
 use Rattle.qc_pair.specs.declared.pair.Pair.{Pair}
 use Rattle.qc_pair.proofs.Halves.{active_has, active_keeps, opens_fold}
-use Rattle.qc_site.specs.Image.{to_write, AreGranted, AreMadeIn, AreMountableAsCopy, IsCopyFault}
+use Rattle.qc_site.specs.Image.{to_write, AreGranted, AreMountableAsCopy, IsCopyFault}
 use Rattle.qc_site.specs.Mounted.{journal_of, records_of}
-use Rattle.qc_site.specs.Pairs.{own_after, pair_no, spare_after, IsCopyPairNo, MountsCopyPair}
+use Rattle.qc_site.specs.Pairs.{own_found, pair_no, spare_found, FindsCopyPair}
 use Rattle.qc_site.specs.Refusing.{IsOfCopyImage}
 use Rattle.qc_site.specs.declared.fault.SiteNo.{SiteNo}
 use Rattle.qc_site.specs.declared.fault.SiteNo.TheVariants.{Disk, Image, Strange, Short}
@@ -59,14 +59,14 @@ not_for_memory n answer same is = let one : no.Memory ≡ no.Disk n = sym same �
 
 module _ (who : ℕ) (written : ℕ → List (List ℕ) → List (List ℕ)) {D : Type 0} (g : Ghosts D) (own spare : D) where
   -- a refusal of the opening leaves each disk
-  pub own_refused : (r : Result (Mounted D g × Fold D g) (D × D × PairNo)) (refused : D × D × PairNo) → IsErrAnd r (λ e. e ≡ refused) → MountsDisk g.view (refused.2 ≡ no.Disk who) own refused.0
-      → LeavesHalf kind.Copy who written g own spare false (IsErrAnd r (λ e. e.2 ≡ no.Disk who)) own (own_after r)
+  pub own_refused : (r : Result (Mounted D g × Fold D g × ℕ) (D × D × PairNo)) (refused : D × D × PairNo) → IsErrAnd r (λ e. e ≡ refused) → MountsDisk g.view (refused.2 ≡ no.Disk who) own refused.0
+      → LeavesHalf kind.Copy who written g own spare false (IsErrAnd r (λ e. e.2 ≡ no.Disk who)) own (own_found r)
   own_refused (Ok mounted) refused same left = absurd same
   own_refused (Err e) refused same left = subst (λ (x : D × D × PairNo). LeavesHalf kind.Copy who written g own spare false (x.2 ≡ no.Disk who) own x.0) (sym same)
       (opened_half kind.Copy who written g own spare false (refused.2 ≡ no.Disk who) (refused.2 ≡ no.Disk who) own refused.0 left (λ is. is) (λ is. is))
 
-  pub spare_refused : (r : Result (Mounted D g × Fold D g) (D × D × PairNo)) (refused : D × D × PairNo) → IsErrAnd r (λ e. e ≡ refused) → MountsDisk g.view (refused.2 ≡ no.Disk (who + 17)) spare refused.1
-      → LeavesHalf kind.Copy who written g own spare true (IsErrAnd r (λ e. e.2 ≡ no.Disk (who + 17))) spare (spare_after r)
+  pub spare_refused : (r : Result (Mounted D g × Fold D g × ℕ) (D × D × PairNo)) (refused : D × D × PairNo) → IsErrAnd r (λ e. e ≡ refused) → MountsDisk g.view (refused.2 ≡ no.Disk (who + 17)) spare refused.1
+      → LeavesHalf kind.Copy who written g own spare true (IsErrAnd r (λ e. e.2 ≡ no.Disk (who + 17))) spare (spare_found r)
   spare_refused (Ok mounted) refused same left = absurd same
   spare_refused (Err e) refused same left = subst (λ (x : D × D × PairNo). LeavesHalf kind.Copy who written g own spare true (x.2 ≡ no.Disk (who + 17)) spare x.1) (sym same)
       (opened_half kind.Copy who written g own spare true (refused.2 ≡ no.Disk (who + 17)) (refused.2 ≡ no.Disk (who + 17)) spare refused.1 left (λ is. is) (λ is. is))
@@ -78,17 +78,21 @@ module _ (copy : ℕ) (table : Table) (past : Past) (limit : ℕ) (told spare_to
   abbrev HasFault : ℕ → List (List ℕ) → ImageFault → Type 0
   HasFault disk bodies fault = IsCopyFault disk table past limit bodies fault
 
+  -- a pair may not be found in any format
+  abbrev pub IsFindingNo : PairNo → Type 0
+  IsFindingNo refusal = IsMountNo kind.Copy (copy + 1) told spare_told HasFault refusal
+
   -- it is one of the pair
   pub refused_so : {T S : Type 0} (r : Result T (S × S × PairNo)) (refused : S × S × PairNo) → IsErrAnd r (λ e. e ≡ refused) → IsPairRefusal kind.Copy (copy + 1) told spare_told refused.2
-      → IfErr r (λ e. IsCopyPairNo copy table past limit told spare_told e.2)
+      → IfErr r (λ e. IsFindingNo e.2)
   refused_so (Ok x) refused same is = tt
-  refused_so {T} {S} (Err e) refused same is = subst (λ (x : S × S × PairNo). IsCopyPairNo copy table past limit told spare_told x.2) (sym same) (inl is)
+  refused_so {T} {S} (Err e) refused same is = subst (λ (x : S × S × PairNo). IsFindingNo x.2) (sym same) (inl is)
 
   -- THE ACTIVE DISK
 
   -- so is a fault of it or of its bodies
   pub begin_refused : (is_spare : Bool) (disk : ℕ) (bodies : List (List ℕ)) (K : Type 0) (refusal : SiteNo) → disk ≡ number_at is_spare (copy + 1) → HaveActive kind.Copy (copy + 1) told spare_told is_spare bodies
-      → (IsSome (tells is_spare) → K) → IsOfCopyImage disk (λ fault. K → IsCopyFault disk table past limit bodies fault) refusal → IsCopyPairNo copy table past limit told spare_told (pair_no disk refusal)
+      → (IsSome (tells is_spare) → K) → IsOfCopyImage disk (λ fault. K → IsCopyFault disk table past limit bodies fault) refusal → IsFindingNo (pair_no disk refusal)
   begin_refused is_spare disk bodies K Disk at active keeps is = active_failed kind.Copy (copy + 1) told spare_told HasFault is_spare disk at
   begin_refused is_spare disk bodies K (Image bad) at active keeps is = active_fault kind.Copy (copy + 1) told spare_told HasFault is_spare disk at bodies bad active is.0 (λ some. is.1 (keeps some))
   begin_refused is_spare disk bodies K Strange at active keeps is = absurd is
@@ -98,10 +102,10 @@ module _ (copy : ℕ) (table : Table) (past : Past) (limit : ℕ) (told spare_to
   -- what was begun over the active journal of an opened pair mounts it
   pub copy_mounted : {D : Type 0} {g : Ghosts D} (pair : Pair D g) (fold : Fold D g) (mounted : Mounted D g) (disk : ℕ) (found : List (List ℕ)) → OpensPair kind.Copy (copy + 1) told spare_told pair found
       → other_in fold ≡ other_of pair → active_number fold ≡ number_of pair → swapped_in fold ≡ swapped pair
-      → disk ≡ number_at (swapped pair) (copy + 1) → AreMadeIn disk table current_format found → AreGranted disk table past found → (Keeps (active_of pair) found → AreMountableAsCopy disk table past limit found)
+      → disk ≡ number_at (swapped pair) (copy + 1) → (format : ℕ) → format ≡ format_in found → AreGranted disk table past found → (Keeps (active_of pair) found → AreMountableAsCopy disk table past limit found)
       → records_of mounted ≡ found ++ to_write disk table found → (Keeps (active_of pair) found → Keeps (journal_of mounted) (records_of mounted))
-      → MountsCopyPair copy table past limit told spare_told mounted fold
-  copy_mounted pair fold mounted disk found opened other number same is made granted fine all kept =
+      → FindsCopyPair copy table past limit format told spare_told mounted fold
+  copy_mounted pair fold mounted disk found opened other number same is format format_is granted fine all kept =
       let which = swapped_in fold in
       let at : disk ≡ number_at which (copy + 1) = is ∙ ap (λ (s : Bool). number_at s (copy + 1)) (sym same) in
       let opens = opens_fold kind.Copy (copy + 1) told spare_told pair fold found opened other number same in
@@ -109,7 +113,7 @@ module _ (copy : ℕ) (table : Table) (past : Past) (limit : ℕ) (told spare_to
       record {
         mounts = record {
           found = found;
-          now = subst (λ (n : ℕ). AreMadeIn n table current_format found) at made;
+          format_is = sym format_is;
           granted = subst (λ (n : ℕ). AreGranted n table past found) at granted;
           fine = fine_told (AreMountableAsCopy (number_at which (copy + 1)) table past limit found) (tells which) found (active_has kind.Copy (copy + 1) told spare_told which found opens.have)
               (λ some. subst (λ (n : ℕ). AreMountableAsCopy n table past limit found) at (fine (keeps some)));

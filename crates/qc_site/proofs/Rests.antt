@@ -28,6 +28,7 @@ use Rattle.qc_journal.specs.Image.{bodies_of}
 use Rattle.qc_ledger.proofs.Firsts.{one_more, parted, so_many}
 use Rattle.qc_site.specs.Image.{made_body, to_write, AreMadeIn}
 use Rattle.qc_site.specs.Reading.{IsLaterBad}
+use Rattle.qc_site.specs.Renewal.{restored_in}
 
 -- TWO TAGS
 
@@ -53,7 +54,7 @@ unfolding body.base body.grant
 base_or_granted made format table bytes = other_tag (body.folded (layout_of made) (length made.table.records)) (body.granted 3 (layout table.copies format)) 4 2 refl bytes
 
 -- a base is no grant
-base_no_grant : (made : Made) (format : ℕ) (table : Table) (bytes : List ℕ) (b : BaseRecord) → all_of (copy_base made) bytes ≡ Some b → all_of (grant_in format table) bytes ≡ None
+pub base_no_grant : (made : Made) (format : ℕ) (table : Table) (bytes : List ℕ) (b : BaseRecord) → all_of (copy_base made) bytes ≡ Some b → all_of (grant_in format table) bytes ≡ None
 base_no_grant made format table bytes b is = ⊎_elim (λ none. let never : None ≡ Some b = sym none ∙ is in absurd cc) (λ none. none) (base_or_granted made format table bytes)
 
 -- WHERE A BASE STANDS
@@ -95,9 +96,11 @@ module _ (disk : ℕ) (table : Table) where
       ap (option_and_then (λ (m : Made). all_of (copy_base m) second.items)) made ∙ ap (λ (w : Vec ℕ Global). all_of (copy_base (made_in format disk table)) w.items) (sym is)
 
   -- which the first body tells
-  pub format_read : (format : ℕ) (bodies : List (Vec ℕ Global)) → 0 < length bodies → AreMadeIn disk table format (bodies_of bodies) → format ≡ format_in (bodies_of bodies)
-  format_read format [] some made = absurd (omega (arith, some))
-  format_read format (first ∷ bodies) some made = ap (λ (o : Option Made). unwrap_or (option_map (λ (m : Made). m.format) o) current_format) (sym made)
+  pub format_told : (format : ℕ) (bodies : List (List ℕ)) (first bytes : List ℕ) (rest : List (List ℕ)) → bodies ≡ first ∷ rest → bytes ≡ first → all_of body.made bytes ≡ Some (made_in format disk table)
+      → format ≡ format_in bodies
+  format_told format bodies first bytes rest split is made =
+      ap (λ (o : Option Made). unwrap_or (option_map (λ (m : Made). m.format) o) current_format) (sym made ∙ ap (all_of body.made) is)
+      ∙ ap format_in (sym split)
 
   -- what a mounting writes is none
   pub written_base : (found : List (List ℕ)) → base_in copy_base (found ++ to_write disk table found) ≡ base_in copy_base found
@@ -111,7 +114,7 @@ module _ (disk : ℕ) (table : Table) (past : Past) where
   pub made_stands : (bytes : List ℕ) (format : ℕ) (kept : Table) → all_of body.made bytes ≡ Some (made_in format disk kept) → MayStand disk table past [] bytes
   made_stands bytes format kept is = subst (λ (o : Option Made). MatchOption o ⊥ (IsMadeOf disk)) (sym is) refl
 
-  made_no_grant : (format : ℕ) (bytes : List ℕ) → MayStand disk table past [] bytes → all_of (grant_in format table) bytes ≡ None
+  pub made_no_grant : (format : ℕ) (bytes : List ℕ) → MayStand disk table past [] bytes → all_of (grant_in format table) bytes ≡ None
   made_no_grant format bytes may = ⊎_elim
       (λ none. absurd (subst (λ (o : Option Made). MatchOption o ⊥ (IsMadeOf disk)) none may))
       (λ none. none)
@@ -176,8 +179,7 @@ module _ (disk : ℕ) (table : Table) (past : Past) where
 
   -- what a copy starts with is told by all of its records
   pub start_told : (fits : body.made.fits (made_for disk table)) (found records : List (List ℕ)) → records ≡ found ++ to_write disk table found → (start : List Tuple)
-      → start ≡ restored_row past.tops (length table.records) (from_row (tuples_of_base table (base_in copy_base found))) (granted_in table found)
-      → start ≡ restored_row past.tops (length table.records) (from_row (tuples_of_base table (base_in copy_base records))) (granted_in table records)
+      → start ≡ restored_in past.tops table found → start ≡ restored_in past.tops table records
   start_told fits found records all start is =
       is
       ∙ ap₂ (λ (base : Option BaseRecord) (gs : List Grant). restored_row past.tops (length table.records) (from_row (tuples_of_base table base)) gs)

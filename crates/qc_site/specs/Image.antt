@@ -1,5 +1,5 @@
 -- The first fault of the image of a copy's disk, and what a mounting writes behind what it finds.
-use Rattle.std.specs.Prelude.{ℕ, ◌≡◌, ◌≢◌, List, []}
+use Rattle.std.specs.Prelude.{ℕ, ◌≡◌, ◌≢◌, ◌<◌, List, [], All}
 use Rattle.qc_event.specs.declared.table.Table.{Table}
 use Rattle.qc_codec.specs.Bodies as body
 use Rattle.qc_codec.specs.Copy.{AreInOrder, IsOutOfOrder}
@@ -8,6 +8,10 @@ use Rattle.qc_codec.specs.declared.image.ImageFault.{ImageFault}
 use Rattle.qc_codec.specs.declared.image.ImageFault.TheVariants.{Broken, Grammar, Full, Table as OtherTable, Epoch}
 use Rattle.qc_codec.specs.declared.past.Past.{Past}
 use Rattle.qc_ledger.specs.Image.{made_where_none, BeginWith, HaveRoom, IsFull}
+
+-- each number of these bodies is a byte
+abbrev pub AreBytes : List (List ℕ) → Type 0
+AreBytes bodies = All (λ (bytes : List ℕ). All (λ (byte : ℕ). byte < 256) bytes) bodies
 
 module _ (disk : ℕ) (table : Table) where
   -- the body that says that a disk of a copy's was made for a table

@@ -3,7 +3,9 @@ pub mod Image
 pub mod Reading
 pub mod Refusing
 pub mod Mounted
+pub mod Renewal
 pub mod Pairs
+pub mod Renewing
 pub mod Start
 pub mod Back
 pub mod Places

@@ -3,6 +3,7 @@
 
 mod back;
 mod beginning;
+mod bytes;
 mod checkpoint;
 mod compare;
 mod fault;
@@ -14,6 +15,7 @@ mod log;
 mod mounted;
 mod mounting;
 mod reading;
+mod renewing;
 mod replica;
 mod replica_desk;
 mod serve;
@@ -22,6 +24,7 @@ mod start;
 mod tops;
 
 pub use back::{BackNo, Strange, read_back};
+pub use bytes::are_bytes;
 pub use fault::SiteNo;
 pub use law::one_verdict;
 pub use mounted::Mounted;

@@ -24,9 +24,10 @@ use qc_event::{Grant, Short, Table};
 use qc_journal::Body;
 use std::alloc::{AllocError, Global};
 
-/// What the bodies of a copy's journal tell: the base, where there is one, and the grants.
+/// What the bodies of a copy's journal tell: their format, the base, where there is one, and the grants.
 #[derive(Drop)]
 pub(crate) struct Told {
+    pub(crate) format: u8,
     pub(crate) base: Option<BaseRecord>,
     pub(crate) grants: Vec<Grant>,
 }
@@ -44,7 +45,6 @@ fn check_made(
     requires spelled { spelled.now ≡ made_body who table.now }
     ensures made { IfOk result (λ format. all_of body.made first.now ≡ Some
         (made_in format who table.now)) }
-    ensures now { IfOk result (λ format. format ≡ current_format) }
     ensures fault { (past : Past) → IfErr result (IsOfBytes who
         (IsFirstBad who table.now past first.now)) }
 {
@@ -195,13 +195,14 @@ pub(crate) fn grants_of(
     ensures base { IfOk result (λ told. told.base ≡ base_in copy_base (bodies_of bodies.now)) }
     ensures sized { IfOk result (λ told. length (tuples_of_base table.now told.base)
         ≡ length table.now.records) }
-    ensures now { OnOk result (AreMadeIn who table.now current_format (bodies_of bodies.now)) }
+    ensures format { IfOk result (λ told. told.format ≡ format_in (bodies_of bodies.now)) }
     ensures granted { OnOk result (AreGranted who table.now past.now (bodies_of bodies.now)) }
     ensures fault { (limit : ℕ) → IfErr result (IsOfBytes who
         (IsCopyFault who table.now past.now limit (bodies_of bodies.now))) }
 {
     if bodies.is_empty() {
         return Ok(Told {
+            format: FORMAT,
             base: None,
             grants: Vec::new(alloc),
         });
@@ -210,5 +211,9 @@ pub(crate) fn grants_of(
     let base = read_second(alloc, who, table, format, past, bodies)?;
     let granted = read_rest(alloc, who, table, format, past, &base, bodies)?;
     let grants = granted.into_grants();
-    Ok(Told { base, grants })
+    Ok(Told {
+        format,
+        base,
+        grants,
+    })
 }

@@ -22,7 +22,9 @@ use Rattle.qc_refine.specs.Images.{IsCopyBodies}
 use Rattle.qc_refine.proofs.Restoring.ImageReadings.{copy_told, exact_copy_base}
 use Rattle.qc_site.specs.Image.{AreGranted, AreMadeIn, made_body, to_write}
 use Rattle.qc_site.specs.Mounted.{MountsCopy}
-use Rattle.qc_opening.proofs.KeptDisks.InOrder.{Bytes, are_bytes, each_holds, made_of_bytes}
+use Rattle.qc_opening.proofs.KeptDisks.InOrder.{each_holds, made_of_bytes}
+use Rattle.qc_site.proofs.OfBytes.{Bytes, are_bytes}
+use Rattle.qc_site.proofs.PairRenewals.{made_so}
 use Rattle.qc_refine.proofs.Order.DonesWalk.{all_front}
 use Rattle.qc_opening.proofs.KeptDisks.Lists.{append_mapped}
 
@@ -138,8 +140,8 @@ module _ (disk : ℕ) (table : Table) (past : Past) where
       subst AreSpelled (sym (append-nil (first ∷ rest)))
       (each_holds (MayStand disk table past) AreSpelled longer (first ∷ []) rest (made_alone first one.0 one.1) granted.order (All-tail Bytes first rest found_fit))
 
-  pub mounted : (limit : ℕ) (told : Option (List ℕ)) (records : List (List ℕ)) → (body.table current_format).fits table → MountsCopy disk table past limit told records → All Bytes records
+  pub mounted : (limit : ℕ) (told : Option (List ℕ)) (records : List (List ℕ)) → (body.table current_format).fits table → MountsCopy disk table past limit current_format told records → All Bytes records
       → Spell (tuples_of_base table (base_in copy_base records)) (granted_in table records) records
   mounted limit told records proper m fit =
-      let (begin, granted, s) = subst AreSpelled (sym m.all) (by_found m.found proper m.now m.granted (subst (All Bytes) m.all fit)) in
+      let (begin, granted, s) = subst AreSpelled (sym m.all) (by_found m.found proper (made_so disk table current_format m.found m.granted.made m.format_is) m.granted (subst (All Bytes) m.all fit)) in
       as_read begin granted records s

@@ -1,8 +1,6 @@
 -- Bodies of bytes, and what holds of them in order, one behind another.
-use Rattle.std.proofs.Common.{◌≡◌, ℕ, ◌<◌, inl, inr, List, [], ◌∷◌, ◌++◌, length, refl, sym, subst, arith, append-nil, append_assoc}
+use Rattle.std.proofs.Common.{◌≡◌, ℕ, List, [], ◌∷◌, ◌++◌, length, refl, sym, subst, arith, append-nil, append_assoc}
 use Rattle.std.specs.List.{All}
-use Rattle.std.proofs.lemmas.Bool.{cases_lt}
-use Rattle.std.proofs.lemmas.List.{get_or_past}
 use Rattle.std.proofs.lemmas.List.Elements.{All-head, All-tail}
 use Rattle.qc_event.specs.declared.table.Table.{Table}
 use Rattle.qc_codec.specs.Bodies as body
@@ -11,16 +9,7 @@ use Rattle.qc_codec.specs.Order.{EachMay}
 use Rattle.qc_codec.proofs.Exact.{IsBytes}
 use Rattle.qc_codec.proofs.Fits.{made_proper}
 use Rattle.qc_codec.specs.Fields.{current_format}
-
--- each number of a list is a byte
-abbrev pub Bytes : List ℕ → Type 0
-Bytes bytes = All (λ (byte : ℕ). byte < 256) bytes
-
-pub are_bytes : (bytes : List ℕ) → Bytes bytes → IsBytes bytes
-are_bytes bytes all i = elim (cases_lt i (length bytes)) [
-  | inl within ↦ all i 0 within
-  | inr past_all ↦ subst (λ (n : ℕ). n < 256) (sym (get_or_past bytes i 0 past_all)) (omega arith)
-]
+use Rattle.qc_site.proofs.OfBytes.{Bytes, are_bytes}
 
 -- a made record of a proper table fits, where what it spells is of bytes: so is the disk's number
 pub made_of_bytes : (disk : ℕ) (table : Table) → (body.table current_format).fits table → Bytes (body.made.spell (made_for disk table)) → body.made.fits (made_for disk table)

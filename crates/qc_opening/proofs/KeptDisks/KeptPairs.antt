@@ -3,6 +3,7 @@ pub mod WrittenBodies
 pub mod ActiveDisks
 pub mod FoldedDisks
 pub mod PairsStand
+pub mod FoldCutOff
 pub mod CutOffPairs
 pub mod NextMounting
 mod WorkedPairs

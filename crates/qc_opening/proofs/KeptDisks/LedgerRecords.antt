@@ -27,7 +27,8 @@ use Rattle.qc_ledger.proofs.Firsts.{made_of_disk}
 use Rattle.qc_ledger.proofs.Writing.{epoch_fits}
 use Rattle.qc_refine.specs.Images.{IsLedgerBodies}
 use Rattle.qc_refine.proofs.Restoring.ImageReadings.{base_read, exact_ledger_base, read_again}
-use Rattle.qc_opening.proofs.KeptDisks.InOrder.{Bytes, are_bytes, each_holds, made_of_bytes}
+use Rattle.qc_opening.proofs.KeptDisks.InOrder.{each_holds, made_of_bytes}
+use Rattle.qc_site.proofs.OfBytes.{Bytes, are_bytes}
 use Rattle.qc_refine.proofs.Order.DonesWalk.{all_front}
 use Rattle.qc_opening.proofs.KeptDisks.Lists.{append_mapped, last_number, next_counted, range_more}
 

@@ -31,8 +31,9 @@ use Rattle.qc_codec.specs.Fields.{config, current_format, datum, half, long, num
 use Rattle.qc_codec.proofs.Order.{each_none}
 use Rattle.qc_ledger.specs.Image as tops
 use Rattle.qc_site.specs.Image as grants
-use Rattle.qc_opening.specs.Mountings.{AreBytes, AreKept, MountedOn}
-use Rattle.qc_opening.proofs.KeptDisks.InOrder.{Bytes}
+use Rattle.qc_opening.specs.Mountings.{AreKept, MountedOn}
+use Rattle.qc_site.specs.Image.{AreBytes}
+use Rattle.qc_site.proofs.OfBytes.{Bytes}
 
 abbrev row : Row
 row = record { name = 97 ∷ []; start = Number 0; config = record { votes = 1 ∷ []; read = 1; write = 1 } }
@@ -128,10 +129,10 @@ mounted = record {
     each_bytes (suc zero) few = copy_bytes
     each_bytes (suc (suc number)) few = absurd (omega (arith, few))
 
-    each_copy : (copy : ℕ) → copy < 1 → copies.MountsCopy (copy + 1) table (record { epoch = 0; base = None; tops = [] }) 1000 (Some []) (records (copy + 1))
+    each_copy : (copy : ℕ) → copy < 1 → copies.MountsCopy (copy + 1) table (record { epoch = 0; base = None; tops = [] }) 1000 current_format (Some []) (records (copy + 1))
     each_copy zero there = record {
       found = [];
-      now = tt;
+      format_is = refl;
       granted = record { made = (current_format, tt); order = each_none (Copy.MayStand 1 table (record { epoch = 0; base = None; tops = [] })) };
       fine = (inl (refl, omega arith), record { granted = record { made = (current_format, tt); order = each_none (Copy.MayStand 1 table (record { epoch = 0; base = None; tops = [] })) }; room = copy_room });
       all = refl;

@@ -8,7 +8,8 @@ use Rattle.qc_codec.specs.declared.past.Past.{Past}
 use Rattle.qc_disk.specs.declared.disk.Disk.{Ghosts}
 use Rattle.qc_event.specs.declared.table.Table.{Table}
 use Rattle.qc_journal.specs.Image.{HasRecords}
-use Rattle.qc_site.specs.Image.{AreMountableAsCopy, IsCopyFault}
+use Rattle.qc_site.specs.Renewal.{AreMountableInPair}
+use Rattle.qc_site.proofs.PairRenewals.{not_older}
 use Rattle.qc_site.specs.Pairs.{IsCopyPairNo}
 use Rattle.qc_opening.specs.Disks.{IsPairLeft}
 use Rattle.qc_opening.specs.Images.{IsCopiesFault, IsSoundCopy}
@@ -18,7 +19,7 @@ use Rattle.qc_opening.specs.Refusing.{ArePairsLeft, FailedAt, IsBehind, IsReason
 use Rattle.qc_opening.specs.Waiting.{GoesBack, IsTaken}
 use Rattle.qc_opening.proofs.Mountings.Disks.{mounted_for, unreached_pairs}
 use Rattle.qc_opening.proofs.Mountings.Numbered.{pairs_append, pairs_length, pairs_mapped, pairs_more, pairs_shifted}
-use Rattle.qc_opening.proofs.Mountings.Reasons.{among_of, no_of_pair, not_behind, not_failed, IsNoOfPair}
+use Rattle.qc_opening.proofs.Mountings.Reasons.{among_of, no_of_copy, not_behind, not_failed, IsNoOfPair}
 use Rattle.qc_opening.proofs.Mountings.Sound.{sound_pair, told_fine}
 use Rattle.qc_pair.specs.Fold.{swapped_in}
 use Rattle.qc_pair.specs.declared.fault.PairNo.{PairNo}
@@ -34,8 +35,11 @@ module _ {D : Type 0} {g : Ghosts D} (table : Table) (past : Past) (epoch limit 
       → IsSoundCopy table limit past number images
   sound_copy number disks pair images is tells spare_tells =
       let found = is.mounts.mounts.found in
-      sound_pair kind.Copy (number + 1) (g.view disks.0).content (g.view disks.1).content images.0 images.1 tells spare_tells (swapped_in pair.fold) found (λ disk bodies. AreMountableAsCopy disk table past limit bodies)
-      is.mounts.opens.have (told_fine kind.Copy (number + 1) (g.view disks.0).content (g.view disks.1).content images.0 images.1 tells spare_tells (swapped_in pair.fold) (HasRecords found) _ is.mounts.mounts.fine)
+      sound_pair kind.Copy (number + 1) (g.view disks.0).content (g.view disks.1).content images.0 images.1 tells spare_tells (swapped_in pair.fold) found (AreMountableInPair table past limit number)
+      is.mounts.opens.have (record {
+        mountable = told_fine kind.Copy (number + 1) (g.view disks.0).content (g.view disks.1).content images.0 images.1 tells spare_tells (swapped_in pair.fold) (HasRecords found) _ is.mounts.mounts.fine;
+        room = λ place full. not_older found is.mounts.mounts.format_is full.0;
+      })
 
   pub sound_copies : (number : ℕ) (pairs : List (D × D)) (mounted : List (CopyPair D g)) (images : List (List ℕ × List ℕ)) → PairsFrom (IsCopy table past epoch limit) number pairs mounted → TellInPairs g.view pairs images
       → EachFrom (IsSoundCopy table limit past) number images
@@ -91,9 +95,9 @@ module _ {D : Type 0} {g : Ghosts D} (table : Table) (past : Past) (epoch limit 
     -- REFUSED
 
     module _ (copy : ℕ) (count : length mounted ≡ copy) (few : length all ≤ 16) (reason : PairNo) (after : List (D × D))
-        (back : GoesBack (λ old new. IsPairLeft g.view table (FailedAt reason) (IsBehind reason) (copy + 1) old new × IsCopyPairNo copy table past limit (g.view old.0).content (g.view old.1).content reason) waiting after) where
+        (back : GoesBack (λ old new. IsPairLeft g.view table (λ p. p ≡ past) (FailedAt reason) (IsBehind reason) (copy + 1) old new × IsCopyPairNo copy table past limit (g.view old.0).content (g.view old.1).content reason) waiting after) where
       of_copy : IsNoOfPair (copy + 1) reason
-      of_copy = no_of_pair kind.Copy (copy + 1) (g.view back.before.0).content (g.view back.before.1).content (λ disk bodies fault. IsCopyFault disk table past limit bodies fault) reason back.became.1
+      of_copy = no_of_copy copy table past limit (g.view back.before.0).content (g.view back.before.1).content reason back.became.1
 
       all_size : length all ≡ copy + 1 + length back.rest
       all_size = let waits : length waiting ≡ length back.rest + 1 = ap length back.old_is ∙ omega arith in omega (arith, taken_size, count, waits)
@@ -103,23 +107,23 @@ module _ {D : Type 0} {g : Ghosts D} (table : Table) (past : Past) (epoch limit 
           let most : copy + 1 ≤ 16 = omega (arith, few, all_size) in
           (not_failed (copy + 1) other other reason most small apart (inl refl) of_copy, not_failed (copy + 1) other (other + 17) reason most small apart (inr refl) of_copy)
 
-      left_copy : (number : ℕ) (disks : D × D) (m : CopyPair D g) → number < copy → IsCopy table past epoch limit number disks m → IsPairLeft g.view table (FailedAt reason) (IsBehind reason) (number + 1) disks (copy_disks m)
+      left_copy : (number : ℕ) (disks : D × D) (m : CopyPair D g) → number < copy → IsCopy table past epoch limit number disks m → IsPairLeft g.view table (λ p. p ≡ past) (FailedAt reason) (IsBehind reason) (number + 1) disks (copy_disks m)
       left_copy number disks m low is =
           let most : copy + 1 ≤ 16 = omega (arith, few, all_size) in
           let none = none_failed (number + 1) (omega (arith, low, most)) (λ same. omega (arith, low, same)) in
           record {
-            own = mounted_for g.view table (number + 1) (g.view disks.0).content (g.view disks.1).content _ ⊥ (FailedAt reason (number + 1)) disks.0 (copy_disks m).0 none.0 (λ never. absurd never) is.left.own;
-            spare = mounted_for g.view table (number + 1) (g.view disks.0).content (g.view disks.1).content _ ⊥ (FailedAt reason (number + 1 + 17)) disks.1 (copy_disks m).1 none.1 (λ never. absurd never) is.left.spare;
+            own = mounted_for g.view table (λ p. p ≡ past) (λ p. p ≡ past) (number + 1) (g.view disks.0).content (g.view disks.1).content _ ⊥ (FailedAt reason (number + 1)) disks.0 (copy_disks m).0 none.0 (λ never. absurd never) (λ p is. is) is.left.own;
+            spare = mounted_for g.view table (λ p. p ≡ past) (λ p. p ≡ past) (number + 1) (g.view disks.0).content (g.view disks.1).content _ ⊥ (FailedAt reason (number + 1 + 17)) disks.1 (copy_disks m).1 none.1 (λ never. absurd never) (λ p is. is) is.left.spare;
             behind = λ b. absurd (not_behind (copy + 1) (number + 1) reason most (omega (arith, low)) of_copy b);
           }
 
       -- those before it, it, and those behind it
-      pub left_all : ((disk : D) (c : List ℕ) → (g.view disk).left_at (g.view disk).moment c ↔ (g.view disk).may_leave c) → ArePairsLeft g.view table reason 1 all (map copy_disks mounted ++ after)
+      pub left_all : ((disk : D) (c : List ℕ) → (g.view disk).left_at (g.view disk).moment c ↔ (g.view disk).may_leave c) → ArePairsLeft g.view table (λ p. p ≡ past) reason 1 all (map copy_disks mounted ++ after)
       left_all here =
-          let Left : ℕ → D × D → D × D → Type 0 = IsPairLeft g.view table (FailedAt reason) (IsBehind reason) in
+          let Left : ℕ → D × D → D × D → Type 0 = IsPairLeft g.view table (λ p. p ≡ past) (FailedAt reason) (IsBehind reason) in
           let before : PairsFrom Left 1 so_far.taken (map copy_disks mounted) = pairs_shifted Left 0 so_far.taken (map copy_disks mounted)
           (pairs_mapped (IsCopy table past epoch limit) (λ n. Left (n + 1)) copy_disks 0 so_far.taken mounted so_far.copies_are (λ n disks m low is. left_copy n disks m (omega (arith, low, taken_length, count)) is)) in
-          let rest : PairsFrom Left (copy + 1 + 1) back.rest back.rest = unreached_pairs g.view here table reason (copy + 1 + 1) back.rest
+          let rest : PairsFrom Left (copy + 1 + 1) back.rest back.rest = unreached_pairs g.view here table (λ p. p ≡ past) reason (copy + 1 + 1) back.rest
           (λ n from low. none_failed n (omega (arith, low, few, all_size)) (λ same. omega (arith, from, same))) in
           let both : PairsFrom Left 1 (so_far.taken ++ back.before ∷ back.rest) (map copy_disks mounted ++ back.after ∷ back.rest) =
           pairs_append Left 1 (copy + 1) so_far.taken (map copy_disks mounted) (back.before ∷ back.rest) (back.after ∷ back.rest) before (omega (arith, taken_length, count)) (back.became.0, rest) in

@@ -47,6 +47,12 @@ pairs_mapped R S f number (item ∷ items) (other ∷ others) pairs also = (
   pairs_mapped R S f (number + 1) items others pairs.1 (λ n x y low. also n x y (omega (arith, low))),
 )
 
+pub pairs_also : {A B : Type 0} (R S : ℕ → A → B → Type 0) (number : ℕ) (items : List A) (others : List B) → ((n : ℕ) (item : A) (other : B) → R n item other → S n item other) → PairsFrom R number items others → PairsFrom S number items others
+pairs_also R S number [] [] also pairs = tt
+pairs_also R S number [] (other ∷ others) also pairs = absurd pairs
+pairs_also R S number (item ∷ items) [] also pairs = absurd pairs
+pairs_also R S number (item ∷ items) (other ∷ others) also pairs = (also number item other pairs.0, pairs_also R S (number + 1) items others also pairs.1)
+
 -- each item with itself
 pub pairs_same : {A : Type 0} (R : ℕ → A → A → Type 0) (number : ℕ) (items : List A) → ((n : ℕ) (item : A) → number ≤ n → n < number + length items → R n item item) → PairsFrom R number items items
 pairs_same R number [] each = tt

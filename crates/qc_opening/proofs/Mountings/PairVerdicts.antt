@@ -132,7 +132,7 @@ module _ (kind : Kind) where
           )
 
       -- both disks tell their bytes
-      both_told : (is_spare : Bool) → IsSome (active_told kind who (Some own) (Some spare) is_spare)
+      pub both_told : (is_spare : Bool) → IsSome (active_told kind who (Some own) (Some spare) is_spare)
       both_told true = refl
       both_told false = refl
 
@@ -156,8 +156,8 @@ module _ (kind : Kind) where
             same_bad other bad (there.0 ∙ sym here.0) (only (number_at one.0 who) one.1 bad.fault other.fault here.1 there.1)
 
         -- and none where its active bodies are fine
-        pub fault_or_sound : (Fine : ℕ → List (List ℕ) → Type 0) → ((disk : ℕ) (bodies : List (List ℕ)) (fault : ImageFault) → HasFault disk bodies fault → Fine disk bodies → ⊥)
+        pub fault_or_sound : (Fine : Bool → List (List ℕ) → Type 0) → ((is_spare : Bool) (bodies : List (List ℕ)) (fault : ImageFault) → HasFault (number_at is_spare who) bodies fault → Fine is_spare bodies → ⊥)
             → (bad : BadImage) → IsMountNo kind who (Some own) (Some spare) HasFault (Image bad) → IsSoundPair kind who Fine (own, spare) → ⊥
         fault_or_sound Fine none bad (inl one) sound = image_or_active bad.disk bad.fault sound.is_spare sound.found (apart bad.disk bad.fault one) sound.have
         fault_or_sound Fine none bad (inr one) sound =
-            none (number_at sound.is_spare who) sound.found bad.fault (active_no bad sound.is_spare sound.found one sound.have).1 sound.fine
+            none sound.is_spare sound.found bad.fault (active_no bad sound.is_spare sound.found one sound.have).1 sound.fine

@@ -1,16 +1,21 @@
 -- For which reasons mountings are refused.
 use Rattle.std.proofs.Common.{◌≡◌, ℕ, ◌+◌, ◌-◌, ◌≤◌, ◌⊎◌, List, subst, sym, ap, refl, arith, inl, inr, ◌∙◌}
-use Rattle.std.specs.Prelude.{Bool, true, false, nat_lt, if◌then◌else◌, Option}
+use Rattle.std.specs.Prelude.{Bool, true, false, not, nat_lt, if◌then◌else◌, Option}
 use Rattle.std.proofs.lemmas.Bool.Decides.{nat_tests}
 use Rattle.qc_codec.specs.declared.image.BadImage.{BadImage}
 use Rattle.qc_codec.specs.declared.image.ImageFault.{ImageFault}
 use Rattle.qc_codec.specs.declared.image.ImageFault.TheVariants as image
+use Rattle.qc_codec.specs.declared.past.Past.{Past}
+use Rattle.qc_event.specs.declared.table.Table.{Table}
 use Rattle.qc_opening.specs.Refusing.{pair_of, FailedAt, IsAmong, IsBehind, IsReasonAmong}
 use Rattle.qc_pair.specs.Opening.{IsFirstMisplaced, IsImageNo, IsMountNo}
 use Rattle.qc_pair.specs.Pair.{number_at}
 use Rattle.qc_pair.specs.declared.fault.PairNo.{PairNo}
 use Rattle.qc_pair.specs.declared.fault.PairNo.TheVariants.{Disk, Image, Memory}
 use Rattle.qc_pair.specs.declared.kind.Kind.{Kind}
+use Rattle.qc_pair.specs.declared.kind.Kind.TheVariants as kind
+use Rattle.qc_site.specs.Image.{IsCopyFault}
+use Rattle.qc_site.specs.Pairs.{IsCopyPairNo}
 
 -- OF ONE PAIR
 
@@ -48,6 +53,13 @@ module _ (kind : Kind) (pair : ℕ) (told spare_told : Option (List ℕ)) where
   no_of_pair HasFault (Image bad) (inl is) = image_of_pair bad.disk bad.fault is
   no_of_pair HasFault (Image bad) (inr is) = number_of_pair is.0 pair bad.disk is.3
   no_of_pair HasFault Memory is = tt
+
+-- so is that of a copy's
+pub no_of_copy : (copy : ℕ) (table : Table) (past : Past) (limit : ℕ) (told spare_told : Option (List ℕ)) (no' : PairNo) → IsCopyPairNo copy table past limit told spare_told no' → IsNoOfPair (copy + 1) no'
+no_of_copy copy table past limit told spare_told no' (inl is) = no_of_pair kind.Copy (copy + 1) told spare_told (λ disk bodies fault. IsCopyFault disk table past limit bodies fault) no' is
+no_of_copy copy table past limit told spare_told (Disk which) (inr is) = absurd is
+no_of_copy copy table past limit told spare_told (Image bad) (inr is) = number_of_pair (not is.0) (copy + 1) bad.disk is.4
+no_of_copy copy table past limit told spare_told Memory (inr is) = absurd is
 
 -- IN A STORE
 

@@ -4,12 +4,14 @@ use Rattle.std.specs.Prelude.{Bool, true, false, if◌then◌else◌, Option, So
 use Rattle.std.proofs.lemmas.Option.{slice_get_within}
 use Rattle.std.proofs.lemmas.List.{get_or-append-add, get_or-map, length-append, length-map, map-append}
 use Rattle.std.specs.List.{range_with_len}
+use Rattle.qc_codec.specs.declared.past.Past.{Past}
 use Rattle.qc_disk.specs.Disk.{DiskView}
 use Rattle.qc_event.specs.declared.table.Table.{Table}
-use Rattle.qc_opening.specs.Disks.{is_spare_at, number_of, pair_at, told_by, IsLeft, IsMounted, IsPairLeft}
+use Rattle.qc_opening.specs.Disks.{is_spare_at, number_of, pair_at, told_by, FirstTells, IsLeft, IsMounted, IsPairLeft, TellsPast}
 use Rattle.qc_opening.specs.Images.{images_in_pairs}
 use Rattle.qc_opening.specs.Numbered.{PairsFrom}
 use Rattle.qc_opening.specs.Refusing.{AreLeft, ArePairsLeft, FailedAt, IsBehind, TellImages, TellInPairs}
+use Rattle.qc_opening.proofs.Mountings.Disks.{mounted_for}
 use Rattle.qc_opening.proofs.Mountings.Numbered.{pairs_append, pairs_placed}
 use Rattle.qc_opening.proofs.Mountings.Places.{own_place, spare_place, IsPlaceOf}
 use Rattle.qc_pair.specs.declared.fault.PairNo.{PairNo}
@@ -49,32 +51,45 @@ row_length {A} pairs = length-append (map (λ (q : A × A). q.0) pairs) (map (λ
 module _ {D : Type 0} (view : D → DiskView) where
   -- WHAT IS LEFT OF THEM
 
-  mounted_as : (table : Table) (Failed : ℕ → Type 0) (pair pair' number number' : ℕ) (a a' b b' : Option (List ℕ)) (s s' : Bool) (old new : D) → pair' ≡ pair → number' ≡ number → a' ≡ a → b' ≡ b → s' ≡ s
-      → IsMounted view table pair a b s (Failed number) old new → IsMounted view table pair' a' b' s' (Failed number') old new
-  mounted_as table Failed pair pair' number number' a a' b b' s s' old new same_pair same_number same_a same_b same_s is =
-      subst (λ (z : Bool). IsMounted view table pair' a' b' z (Failed number') old new) (sym same_s)
-      (subst (λ (o : Option (List ℕ)). IsMounted view table pair' a' o s (Failed number') old new) (sym same_b)
-      (subst (λ (o : Option (List ℕ)). IsMounted view table pair' o b s (Failed number') old new) (sym same_a)
-      (subst (λ n. IsMounted view table pair' a b s (Failed n) old new) (sym same_number)
-      (subst (λ n. IsMounted view table n a b s (Failed number) old new) (sym same_pair) is))))
+  mounted_as : (table : Table) (Tells : Past → Type 0) (Failed : ℕ → Type 0) (pair pair' number number' : ℕ) (a a' b b' : Option (List ℕ)) (s s' : Bool) (old new : D) → pair' ≡ pair → number' ≡ number → a' ≡ a → b' ≡ b → s' ≡ s
+      → IsMounted view table Tells pair a b s (Failed number) old new → IsMounted view table Tells pair' a' b' s' (Failed number') old new
+  mounted_as table Tells Failed pair pair' number number' a a' b b' s s' old new same_pair same_number same_a same_b same_s is =
+      subst (λ (z : Bool). IsMounted view table Tells pair' a' b' z (Failed number') old new) (sym same_s)
+      (subst (λ (o : Option (List ℕ)). IsMounted view table Tells pair' a' o s (Failed number') old new) (sym same_b)
+      (subst (λ (o : Option (List ℕ)). IsMounted view table Tells pair' o b s (Failed number') old new) (sym same_a)
+      (subst (λ n. IsMounted view table Tells pair' a b s (Failed n) old new) (sym same_number)
+      (subst (λ n. IsMounted view table Tells n a b s (Failed number) old new) (sym same_pair) is))))
 
   module _ (table : Table) (reason : PairNo) (pairs : List (D × D)) (size : length pairs ≡ table.copies + 1) where
     abbrev told : ℕ → Option (List ℕ)
     told = told_by (map (λ disk. (view disk).content) (own_then_spares pairs))
+
+    abbrev Told : Past → Type 0
+    Told = TellsPast (told 0) (told (table.copies + 1 + 0))
+
+    -- the past that the first pair tells is told at its places
+    first_told : (past : Past) → FirstTells view pairs past → Told past
+    first_told past = by pairs (λ p at. (own_at (λ disk. (view disk).content) None pairs 0 p at, spare_at (λ disk. (view disk).content) None pairs 0 (table.copies + 1) (table.copies + 1 + 0) p at size refl))
+      where
+        by : (all : List (D × D)) → ((p : D × D) → slice_get all 0 ≡ Some p → (told 0 ≡ (view p.0).content) × (told (table.copies + 1 + 0) ≡ (view p.1).content)) → FirstTells view all past → Told past
+        by [] at tells = absurd tells
+        by (p ∷ more) at tells =
+            let both = at p refl in
+            subst (λ o. TellsPast o (told (table.copies + 1 + 0)) past) (sym both.0) (subst (λ o. TellsPast (view p.0).content o past) (sym both.1) tells)
 
     abbrev Left : ℕ → D → D → Type 0
     Left = IsLeft view table told (FailedAt reason) (IsBehind reason)
 
     -- both disks of a pair, by where they stand
     in_row : (pair place : ℕ) (is_spare : Bool) (old new : D × D) (mine its : D) → slice_get pairs pair ≡ Some old → IsPlaceOf table.copies is_spare pair place
-        → IsMounted view table pair (view old.0).content (view old.1).content is_spare (FailedAt reason (if is_spare then pair + 17 else pair)) mine its → (IsBehind reason pair → its ≡ mine) → Left place mine its
+        → IsMounted view table (FirstTells view pairs) pair (view old.0).content (view old.1).content is_spare (FailedAt reason (if is_spare then pair + 17 else pair)) mine its → (IsBehind reason pair → its ≡ mine) → Left place mine its
     in_row pair place is_spare old new mine its at is mounted left = record {
-      mounted = mounted_as table (FailedAt reason) pair (pair_at table.copies place) (if is_spare then pair + 17 else pair) (number_of table.copies place)
+      mounted = mounted_as table Told (FailedAt reason) pair (pair_at table.copies place) (if is_spare then pair + 17 else pair) (number_of table.copies place)
           (view old.0).content (told (pair_at table.copies place)) (view old.1).content (told (table.copies + 1 + pair_at table.copies place)) is_spare (is_spare_at table.copies place) mine its
           is.of_pair is.number
           (ap told is.of_pair ∙ own_at (λ disk. (view disk).content) None pairs pair old at)
           (ap (λ n. told (table.copies + 1 + n)) is.of_pair ∙ spare_at (λ disk. (view disk).content) None pairs pair (table.copies + 1) (table.copies + 1 + pair) old at size refl)
-          is.spare mounted;
+          is.spare (mounted_for view table (FirstTells view pairs) Told pair (view old.0).content (view old.1).content is_spare _ _ mine its (λ failed. failed) (λ failed. failed) first_told mounted);
       behind = λ b. left (subst (IsBehind reason) is.of_pair b);
     }
 
@@ -88,9 +103,9 @@ module _ {D : Type 0} (view : D → DiskView) where
         subst (λ k. IsPlaceOf table.copies false n k) same (own_place table.copies n (omega (arith, is, low)))
 
     -- what is left of pairs is left of their disks in a row
-    pub left_in_row : (news : List (D × D)) → ArePairsLeft view table reason 0 pairs news → AreLeft view table reason (own_then_spares pairs) (own_then_spares news)
+    pub left_in_row : (news : List (D × D)) → ArePairsLeft view table (FirstTells view pairs) reason 0 pairs news → AreLeft view table reason (own_then_spares pairs) (own_then_spares news)
     left_in_row news left =
-        let PairLeft : ℕ → D × D → D × D → Type 0 = IsPairLeft view table (FailedAt reason) (IsBehind reason) in
+        let PairLeft : ℕ → D × D → D × D → Type 0 = IsPairLeft view table (FirstTells view pairs) (FailedAt reason) (IsBehind reason) in
         let owns : PairsFrom Left 0 (map (λ p. p.0) pairs) (map (λ p. p.0) news) = pairs_placed PairLeft Left (λ p. p.0) (λ p. p.0) 0 0 pairs news left
         (λ place n m old new is there at has. in_row n m false old new old.0 new.0 (same_place place n old is at) (of_own place n m old is there at) has.own (λ b. ap (λ (p : D × D). p.0) (has.behind b))) in
         let spares : PairsFrom Left (table.copies + 1) (map (λ p. p.1) pairs) (map (λ p. p.1) news) = pairs_placed PairLeft Left (λ p. p.1) (λ p. p.1) 0 (table.copies + 1) pairs news left

@@ -1,16 +1,14 @@
 -- Pairs that were mounted have no fault.
 use Rattle.std.proofs.Common.{◌≡◌, ℕ, ◌+◌, List, subst, sym, add-one}
 use Rattle.std.specs.Prelude.{Bool, true, false, Option, Some, IfSome}
+use Rattle.qc_codec.specs.declared.past.Past.{Past}
 use Rattle.qc_disk.specs.Disk.{DiskView}
 use Rattle.qc_event.specs.declared.table.Table.{Table}
-use Rattle.qc_ledger.specs.Pairs.{MountsHalf}
-use Rattle.qc_site.specs.Image as grants
+use Rattle.qc_site.specs.Renewal.{MountsCopyHalf}
 use Rattle.qc_opening.specs.Disks.{IsMounted}
 use Rattle.qc_opening.specs.Images.{IsSoundPair}
 use Rattle.qc_pair.specs.Opening.{active_told, HaveActive}
-use Rattle.qc_pair.specs.Pair.{number_at}
 use Rattle.qc_pair.specs.declared.kind.Kind.{Kind}
-use Rattle.qc_pair.specs.declared.kind.Kind.TheVariants as kind
 
 module _ (kind : Kind) (pair : ℕ) (told spare_told : Option (List ℕ)) (own spare : List ℕ) (tells : told ≡ Some own) (spare_tells : spare_told ≡ Some spare) where
   -- what holds where the active disk tells its bytes
@@ -19,7 +17,7 @@ module _ (kind : Kind) (pair : ℕ) (told spare_told : Option (List ℕ)) (own s
   told_fine false P Q fine = (subst (λ o. IfSome o (λ bytes. P bytes × Q)) tells fine).1
 
   -- what a pair told has no fault
-  pub sound_pair : (is_spare : Bool) (found : List (List ℕ)) (Fine : ℕ → List (List ℕ) → Type 0) → HaveActive kind pair told spare_told is_spare found → Fine (number_at is_spare pair) found → IsSoundPair kind pair Fine (own, spare)
+  pub sound_pair : (is_spare : Bool) (found : List (List ℕ)) (Fine : Bool → List (List ℕ) → Type 0) → HaveActive kind pair told spare_told is_spare found → Fine is_spare found → IsSoundPair kind pair Fine (own, spare)
   sound_pair is_spare found Fine have fine = record {
     is_spare = is_spare;
     found = found;
@@ -28,9 +26,6 @@ module _ (kind : Kind) (pair : ℕ) (told spare_told : Option (List ℕ)) (own s
   }
 
 -- pair `copy + 1` is a copy's
-pub copy_half : {D : Type 0} (view : D → DiskView) (table : Table) (copy : ℕ) (told spare_told : Option (List ℕ)) (is_spare : Bool) (Failed : Type 0) (old new : D)
-    → MountsHalf kind.Copy (copy + 1) told spare_told (λ number. grants.to_write number table) is_spare view Failed old new → IsMounted view table (copy + 1) told spare_told is_spare Failed old new
-copy_half view table copy told spare_told is_spare Failed old new is =
-    let next = add-one copy in
-    subst (λ n. IsMounted view table n told spare_told is_spare Failed old new) (sym next)
-    (subst (λ n. MountsHalf kind.Copy n told spare_told (λ number. grants.to_write number table) is_spare view Failed old new) next is)
+pub copy_half : {D : Type 0} (view : D → DiskView) (table : Table) (Tells : Past → Type 0) (copy : ℕ) (told spare_told : Option (List ℕ)) (is_spare : Bool) (Failed : Type 0) (old new : D)
+    → MountsCopyHalf copy table told spare_told Tells is_spare view Failed old new → IsMounted view table Tells (copy + 1) told spare_told is_spare Failed old new
+copy_half view table Tells copy told spare_told is_spare Failed old new is = subst (λ n. IsMounted view table Tells n told spare_told is_spare Failed old new) (sym (add-one copy)) is

@@ -1,5 +1,5 @@
 -- A store that is mounted, or refused.
-use Rattle.std.proofs.Common.{◌≡◌, ℕ, ◌+◌, ◌≤◌, List, [], ◌∷◌, length, subst, sym, ap, refl, arith, inl, inr, suc}
+use Rattle.std.proofs.Common.{◌≡◌, ℕ, ◌+◌, ◌≤◌, List, [], ◌∷◌, length, subst, sym, ap, ◌∙◌, refl, arith, inl, inr, suc}
 use Rattle.std.specs.Prelude.{◌↔◌, Some, Result, Ok, Err, IfErr, IfOk}
 use Rattle.std.specs.Result.{IsErrAnd}
 use Rattle.qc_names.specs.Padded.{head_of, tail_of}
@@ -11,20 +11,21 @@ use Rattle.qc_event.specs.declared.table.Table.{Table}
 use Rattle.qc_journal.specs.Image.{HasRecords}
 use Rattle.qc_ledger.specs.Image.{AreMountableAsLedger, IsLedgerFault}
 use Rattle.qc_ledger.specs.Pairs.{IsLedgerPairNo}
-use Rattle.qc_opening.specs.Disks.{all_places, IsPairLeft}
+use Rattle.qc_opening.specs.Disks.{all_places, FirstTells, IsPairLeft}
 use Rattle.qc_opening.specs.Images.{images_in_pairs, AreSound, AreSoundInPairs, IsCopiesFault, IsFirstInPairs, IsSoundCopy, IsSoundLedger}
 use Rattle.qc_opening.specs.Mounted.{ledger_disks, IsCopy, IsLedger, IsStoreOf}
 use Rattle.qc_opening.specs.Numbered.{EachFrom}
 use Rattle.qc_opening.specs.Refusing.{ArePairsLeft, FailedAt, IsBehind, IsReasonAmong, TellImages, TellInPairs}
 use Rattle.qc_opening.specs.Waiting.{GoesBack, IsTaken}
 use Rattle.qc_opening.specs.declared.parts.Parts.{Parts}
-use Rattle.qc_opening.proofs.Mountings.Disks.{mounted_for, unreached_pairs}
+use Rattle.qc_opening.proofs.Mountings.Disks.{left_too, mounted_for, unreached_pairs}
 use Rattle.qc_opening.proofs.Mountings.InTurn.{sound_copies}
 use Rattle.qc_opening.proofs.Mountings.Numbered.{pairs_length}
 use Rattle.qc_opening.proofs.Mountings.Reasons.{among_more, among_of, no_of_pair, not_behind_first, not_failed, not_first_failed, IsNoOfPair}
 use Rattle.qc_opening.proofs.Mountings.Row.{row_length, tell_in_pairs}
 use Rattle.qc_opening.proofs.Mountings.Sound.{sound_pair, told_fine}
 use Rattle.qc_pair.specs.Fold.{swapped_in}
+use Rattle.qc_pair.specs.Pair.{number_at}
 use Rattle.qc_pair.specs.declared.fault.PairNo.{PairNo}
 use Rattle.qc_pair.specs.declared.fault.PairNo.TheVariants.{Image}
 use Rattle.qc_pair.specs.declared.kind.Kind.TheVariants as kind
@@ -60,23 +61,23 @@ module _ {D : Type 0} {g : Ghosts D} (table : Table) (limit : ℕ) where
       let told = (g.view disks.0).content in
       let spare_told = (g.view disks.1).content in
       let fine = told_fine kind.Ledger 0 told spare_told images.0 images.1 tells spare_tells (swapped_in ledger.fold) (HasRecords found) _ is.mounts.mounts.fine in
-      sound_pair kind.Ledger 0 told spare_told images.0 images.1 tells spare_tells (swapped_in ledger.fold) found (λ disk bodies. AreMountableAsLedger disk table limit bodies × Behind (past_in bodies))
+      sound_pair kind.Ledger 0 told spare_told images.0 images.1 tells spare_tells (swapped_in ledger.fold) found (λ is_spare bodies. AreMountableAsLedger (number_at is_spare 0) table limit bodies × Behind (past_in bodies))
       is.mounts.opens.have (fine, subst Behind is.mounts.mounts.past_is behind)
 
   module _ (reason : PairNo) (old new : List (D × D)) (few : length old ≤ 17)
-      (back : GoesBack (λ before after. IsPairLeft g.view table (FailedAt reason) (IsBehind reason) 0 before after × IsLedgerPairNo table limit (g.view before.0).content (g.view before.1).content reason) old new) where
+      (back : GoesBack (λ before after. IsPairLeft g.view table (FirstTells g.view old) (FailedAt reason) (IsBehind reason) 0 before after × IsLedgerPairNo table limit (g.view before.0).content (g.view before.1).content reason) old new) where
     of_ledger : IsNoOfPair 0 reason
     of_ledger = no_of_pair kind.Ledger 0 (g.view back.before.0).content (g.view back.before.1).content (λ disk bodies fault. IsLedgerFault disk table limit bodies fault) reason back.became.1
 
-    pub left_at_ledger : ((disk : D) (c : List ℕ) → (g.view disk).left_at (g.view disk).moment c ↔ (g.view disk).may_leave c) → ArePairsLeft g.view table reason 0 old new
+    pub left_at_ledger : ((disk : D) (c : List ℕ) → (g.view disk).left_at (g.view disk).moment c ↔ (g.view disk).may_leave c) → ArePairsLeft g.view table (FirstTells g.view old) reason 0 old new
     left_at_ledger here =
         let size : length old ≡ suc (length back.rest) = ap length back.old_is in
-        let rest : ArePairsLeft g.view table reason 1 back.rest back.rest = unreached_pairs g.view here table reason 1 back.rest (λ n from low.
+        let rest : ArePairsLeft g.view table (FirstTells g.view old) reason 1 back.rest back.rest = unreached_pairs g.view here table (FirstTells g.view old) reason 1 back.rest (λ n from low.
         let small : n ≤ 16 = omega (arith, low, size, few) in
         let apart : n ≡ 0 → ⊥ = (λ same. omega (arith, from, same)) in
         (not_failed 0 n n reason (omega arith) small apart (inl refl) of_ledger, not_failed 0 n (n + 17) reason (omega arith) small apart (inr refl) of_ledger)) in
-        let both : ArePairsLeft g.view table reason 0 (back.before ∷ back.rest) (back.after ∷ back.rest) = (back.became.0, rest) in
-        subst (λ (l : List (D × D)). ArePairsLeft g.view table reason 0 l new) (sym back.old_is) (subst (λ (l : List (D × D)). ArePairsLeft g.view table reason 0 (back.before ∷ back.rest) l) (sym back.new_is) both)
+        let both : ArePairsLeft g.view table (FirstTells g.view old) reason 0 (back.before ∷ back.rest) (back.after ∷ back.rest) = (back.became.0, rest) in
+        subst (λ (l : List (D × D)). ArePairsLeft g.view table (FirstTells g.view old) reason 0 l new) (sym back.old_is) (subst (λ (l : List (D × D)). ArePairsLeft g.view table (FirstTells g.view old) reason 0 (back.before ∷ back.rest) l) (sym back.new_is) both)
 
     pub reason_of_ledger : (most : ℕ) → IsReasonAmong 0 most (λ bad. (images : List (List ℕ × List ℕ)) → TellInPairs g.view old images → IsFirstInPairs table limit bad images) reason
     reason_of_ledger most = among_of 0 most 0 (λ bad. (images : List (List ℕ × List ℕ)) → TellInPairs g.view old images → IsFirstInPairs table limit bad images) reason (omega arith) (omega arith) of_ledger
@@ -94,16 +95,23 @@ module _ {D : Type 0} {g : Ghosts D} (table : Table) (limit : ℕ) where
 
   module _ (ledger : LedgerPair D g) (past : Past) (epoch : ℕ) (old mid : List (D × D)) (taken : IsTaken (λ disks. IsLedger table limit disks ledger past epoch) old mid) where
     module _ (most : ℕ) (few : most ≤ 16) (reason : PairNo) (among : IsReasonAmong 1 most (λ bad. (images : List (List ℕ × List ℕ)) → TellInPairs g.view mid images → IsCopiesFault table limit past bad 0 images) reason) where
-      pub left_behind : (after new : List (D × D)) → ArePairsLeft g.view table reason 1 mid after → new ≡ ledger_disks ledger ∷ after → ArePairsLeft g.view table reason 0 old new
+      -- the past behind which the copies were mounted is told by the first pair
+      told_first : (p : Past) → p ≡ past → FirstTells g.view old p
+      told_first p is =
+          let m = taken.has.mounts in
+          subst (λ (l : List (D × D)). FirstTells g.view l p) (sym taken.old_is) (swapped_in ledger.fold, m.mounts.found, m.opens.have, is ∙ m.mounts.past_is)
+
+      pub left_behind : (after new : List (D × D)) → ArePairsLeft g.view table (λ p. p ≡ past) reason 1 mid after → new ≡ ledger_disks ledger ∷ after → ArePairsLeft g.view table (FirstTells g.view old) reason 0 old new
       left_behind after new left is =
+          let Told : Past → Type 0 = FirstTells g.view old in
           let disks : D × D = ledger_disks ledger in
-          let it : IsPairLeft g.view table (FailedAt reason) (IsBehind reason) 0 taken.first disks = record {
-            own = mounted_for g.view table 0 (g.view taken.first.0).content (g.view taken.first.1).content _ ⊥ (FailedAt reason 0) taken.first.0 disks.0 (not_first_failed most 0 _ reason few among (inl refl)) (λ never. absurd never) taken.has.left.own;
-            spare = mounted_for g.view table 0 (g.view taken.first.0).content (g.view taken.first.1).content _ ⊥ (FailedAt reason 17) taken.first.1 disks.1 (not_first_failed most 17 _ reason few among (inr refl)) (λ never. absurd never) taken.has.left.spare;
+          let it : IsPairLeft g.view table Told (FailedAt reason) (IsBehind reason) 0 taken.first disks = record {
+            own = mounted_for g.view table (λ p. p ≡ past) Told 0 (g.view taken.first.0).content (g.view taken.first.1).content _ ⊥ (FailedAt reason 0) taken.first.0 disks.0 (not_first_failed most 0 _ reason few among (inl refl)) (λ never. absurd never) told_first taken.has.left.own;
+            spare = mounted_for g.view table (λ p. p ≡ past) Told 0 (g.view taken.first.0).content (g.view taken.first.1).content _ ⊥ (FailedAt reason 17) taken.first.1 disks.1 (not_first_failed most 17 _ reason few among (inr refl)) (λ never. absurd never) told_first taken.has.left.spare;
             behind = λ b. absurd (not_behind_first reason b);
           } in
-          let both : ArePairsLeft g.view table reason 0 (taken.first ∷ mid) (disks ∷ after) = (it, left) in
-          subst (λ (l : List (D × D)). ArePairsLeft g.view table reason 0 l new) (sym taken.old_is) (subst (λ (l : List (D × D)). ArePairsLeft g.view table reason 0 (taken.first ∷ mid) l) (sym is) both)
+          let both : ArePairsLeft g.view table Told reason 0 (taken.first ∷ mid) (disks ∷ after) = (it, left_too g.view table (λ p. p ≡ past) Told reason 1 mid after told_first left) in
+          subst (λ (l : List (D × D)). ArePairsLeft g.view table Told reason 0 l new) (sym taken.old_is) (subst (λ (l : List (D × D)). ArePairsLeft g.view table Told reason 0 (taken.first ∷ mid) l) (sym is) both)
 
       pub reason_behind : IsReasonAmong 0 most (λ bad. (images : List (List ℕ × List ℕ)) → TellInPairs g.view old images → IsFirstInPairs table limit bad images) reason
       reason_behind = among_more most _ (λ bad. (images : List (List ℕ × List ℕ)) → TellInPairs g.view old images → IsFirstInPairs table limit bad images) reason

@@ -2,6 +2,7 @@
 -- start tuples of the table.
 use Rattle.std.proofs.Common.{◌≡◌, ℕ, ◌+◌, ◌<◌, ◌⊎◌, Bool, true, false, List, [], length, get_or, refl, sym, ap, ◌∙◌, subst, arith}
 use Rattle.std.specs.Prelude.{if◌then◌else◌, map, Option, Some, IfSome, IsSome}
+use Rattle.qc_codec.specs.Fields.{current_format}
 use Rattle.qc_config.specs.Val.{Datum}
 use Rattle.qc_config.specs.declared.tuple.Tuple.{Tuple}
 use Rattle.qc_event.specs.declared.table.Table.{Table}
@@ -36,7 +37,7 @@ mounted_as disk table told other records epoch base same m = record {
   small = m.small;
   bytes = m.bytes;
   ledger = subst (λ o. MountsLedger (disk 0) table (m.limit 0) o (records 0) m.past epoch) (same 0 (omega arith)) m.ledger;
-  copies = λ copy there. subst (λ o. MountsCopy (disk (copy + 1)) table m.past (m.limit (copy + 1)) o (records (copy + 1))) (same (copy + 1) (omega (arith, there))) (m.copies copy there);
+  copies = λ copy there. subst (λ o. MountsCopy (disk (copy + 1)) table m.past (m.limit (copy + 1)) current_format o (records (copy + 1))) (same (copy + 1) (omega (arith, there))) (m.copies copy there);
   as_many = m.as_many;
   starts = m.starts;
 }

@@ -1,5 +1,5 @@
 -- One copy after another.
-use Rattle.std.proofs.Common.{◌∷◌, [], List, length, subst, sym, ap, refl, arith, ◌∙◌}
+use Rattle.std.proofs.Common.{◌≡◌, ◌∷◌, [], List, length, subst, sym, ap, refl, arith, ◌∙◌}
 use Rattle.std.proofs.lemmas.List.{length-append, nil_from_length}
 use Rattle.qc_opening.specs.Mounted.{AreTaken}
 use Rattle.qc_opening.specs.Refusing.{ArePairsLeft}
@@ -11,7 +11,7 @@ use Rattle.qc_pair.specs.declared.fault.PairNo.TheVariants.{Memory}
 use Rattle.qc_system.specs.declared.parts.CopyPair.{CopyPair}
 
 pub returns-in_default-clause-left : goal.returns-in_default-clause-left
-returns-in_default-clause-left g c = unreached_pairs g.D.Disk.view g.met.D.Disk.leaves_now c.args.table.now Memory 1 (waiting_in c.args.waiting.now) (λ n from low. (λ failed. failed, λ failed. failed))
+returns-in_default-clause-left g c = unreached_pairs g.D.Disk.view g.met.D.Disk.leaves_now c.args.table.now (λ p. p ≡ c.args.past.now) Memory 1 (waiting_in c.args.waiting.now) (λ n from low. (λ failed. failed, λ failed. failed))
 
 pub loop-copy-init : goal.loop-copy-init
 loop-copy-init g c =
@@ -52,7 +52,7 @@ pub returns-in-Err-clause-left : goal.returns-in-Err-clause-left
 returns-in-Err-clause-left g c =
     let kept = c.loop-copy.invariant in
     let all = waiting_in c.args.waiting.now in
-    subst (λ (l : List (g.row.D.Denot × g.row.D.Denot)). ArePairsLeft g.D.Disk.view c.args.table.now c.in-Err.no 1 all l) (sym {A = List (g.row.D.Denot × g.row.D.Denot)} c.put_back_all.ensures.pairs)
+    subst (λ (l : List (g.row.D.Denot × g.row.D.Denot)). ArePairsLeft g.D.Disk.view c.args.table.now (λ p. p ≡ c.args.past.now) c.in-Err.no 1 all l) (sym {A = List (g.row.D.Denot × g.row.D.Denot)} c.put_back_all.ensures.pairs)
     (left_all c.args.table.now c.args.past.now c.args.epoch c.args.limit all (waiting_in c.loop-copy.waiting) c.loop-copy.copies.items kept.so_far c.loop-copy.copy kept.count (omega (arith, c.requires.all, c.requires.few)) c.in-Err.no
     (waiting_in c.mount_copy.new.waiting) c.in-Err.ensures.refused g.met.D.Disk.leaves_now)
 

@@ -1,12 +1,12 @@
 -- What the mounting of a copy says of the next pair.
-use Rattle.std.proofs.Common.{◌+◌, ap, arith, length}
-use Rattle.qc_site.specs.Image.{IsCopyFault}
+use Rattle.std.proofs.Common.{◌≡◌, ◌+◌, ap, arith, length}
+use Rattle.qc_site.proofs.PairRenewals.{mounted_now}
+use Rattle.qc_codec.specs.declared.past.Past.{Past}
 use Rattle.qc_opening.specs.Waiting.{waiting_in}
 use Rattle.qc_opening.proofs.Mountings.Disks.{mounted_for}
-use Rattle.qc_opening.proofs.Mountings.Reasons.{failed_is, is_failed, no_of_pair, not_behind}
+use Rattle.qc_opening.proofs.Mountings.Reasons.{failed_is, is_failed, no_of_copy, not_behind}
 use Rattle.qc_opening.proofs.Mountings.Sound.{copy_half}
 use Rattle.qc_opening.proofs.copies.mount_copy.Goals as goal
-use Rattle.qc_pair.specs.declared.kind.Kind.TheVariants as kind
 
 pub put_back-requires : goal.put_back-requires
 put_back-requires g c =
@@ -19,12 +19,14 @@ returns-in-Ok-clause-mounted g c =
     let told = c.in-Ok.ensures in
     let view = g.D.Disk.view in
     let before = c.take-disk.result in
-    let half = copy_half view c.args.table.now c.args.copy (view before.0).content (view before.1).content in
+    let own = (view before.0).content in
+    let spare = (view before.1).content in
+    let half = copy_half view c.args.table.now (λ p. p ≡ c.args.past.now) c.args.copy own spare in
     record {
       first = before;
       old_is = c.take-disk.ensures.pairs;
       has = record {
-        mounts = told.mounts;
+        mounts = mounted_now c.args.copy c.args.table.now own spare c.args.past.now c.args.limit c.in-Ok.copy c.in-Ok.fold told.mounts;
         number_is = told.copy.0;
         copies = told.copy.1;
         limit_is = told.limit;
@@ -45,7 +47,8 @@ returns-in-Err-clause-refused g c =
     let own = (view before.0).content in
     let spare = (view before.1).content in
     let reason = c.in-Err.no in
-    let of = no_of_pair kind.Copy (copy + 1) own spare (λ disk bodies fault. IsCopyFault disk table c.args.past.now c.args.limit bodies fault) reason told.refused in
+    let of = no_of_copy copy table c.args.past.now c.args.limit own spare reason told.refused in
+    let Tells : Past → Type 0 = λ p. p ≡ c.args.past.now in
     record {
       before = before;
       after = (c.in-Err.disk, c.in-Err.spare);
@@ -54,8 +57,8 @@ returns-in-Err-clause-refused g c =
       new_is = c.put_back.ensures.pairs;
       became = (
         record {
-          own = mounted_for view table (copy + 1) own spare _ _ _ before.0 c.in-Err.disk (failed_is reason (copy + 1)) (is_failed reason (copy + 1)) (copy_half view table copy own spare _ _ before.0 c.in-Err.disk told.own);
-          spare = mounted_for view table (copy + 1) own spare _ _ _ before.1 c.in-Err.spare (failed_is reason (copy + 1 + 17)) (is_failed reason (copy + 1 + 17)) (copy_half view table copy own spare _ _ before.1 c.in-Err.spare told.spare);
+          own = mounted_for view table Tells Tells (copy + 1) own spare _ _ _ before.0 c.in-Err.disk (failed_is reason (copy + 1)) (is_failed reason (copy + 1)) (λ p is. is) (copy_half view table Tells copy own spare _ _ before.0 c.in-Err.disk told.own);
+          spare = mounted_for view table Tells Tells (copy + 1) own spare _ _ _ before.1 c.in-Err.spare (failed_is reason (copy + 1 + 17)) (is_failed reason (copy + 1 + 17)) (λ p is. is) (copy_half view table Tells copy own spare _ _ before.1 c.in-Err.spare told.spare);
           behind = λ b. absurd (not_behind (copy + 1) (copy + 1) reason (omega (arith, c.requires.copy, c.requires.few)) (omega arith) of b);
         },
         told.refused,

@@ -1,5 +1,6 @@
 -- What the mounting of the ledger says of the next pair.
 use Rattle.std.proofs.Common.{ap, arith, length}
+use Rattle.qc_opening.specs.Disks.{FirstTells}
 use Rattle.qc_opening.specs.Waiting.{waiting_in}
 use Rattle.qc_opening.proofs.Mountings.Disks.{mounted_for}
 use Rattle.qc_opening.proofs.Mountings.Reasons.{failed_is, is_failed, not_behind_first}
@@ -32,6 +33,7 @@ returns-in-Err-clause-refused g c =
     let before = c.take-disk.result in
     let own = (g.D.Disk.view before.0).content in
     let spare = (g.D.Disk.view before.1).content in
+    let Tells = FirstTells g.D.Disk.view (waiting_in c.args.waiting.now) in
     record {
       before = before;
       after = (c.in-Err.disk, c.in-Err.spare);
@@ -40,8 +42,8 @@ returns-in-Err-clause-refused g c =
       new_is = c.put_back.ensures.pairs;
       became = (
         record {
-          own = mounted_for g.D.Disk.view table 0 own spare _ _ _ before.0 c.in-Err.disk (failed_is c.in-Err.no 0) (is_failed c.in-Err.no 0) told.own;
-          spare = mounted_for g.D.Disk.view table 0 own spare _ _ _ before.1 c.in-Err.spare (failed_is c.in-Err.no 17) (is_failed c.in-Err.no 17) told.spare;
+          own = mounted_for g.D.Disk.view table Tells Tells 0 own spare _ _ _ before.0 c.in-Err.disk (failed_is c.in-Err.no 0) (is_failed c.in-Err.no 0) (λ p is. is) told.own;
+          spare = mounted_for g.D.Disk.view table Tells Tells 0 own spare _ _ _ before.1 c.in-Err.spare (failed_is c.in-Err.no 17) (is_failed c.in-Err.no 17) (λ p is. is) told.spare;
           behind = λ b. absurd (not_behind_first c.in-Err.no b);
         },
         told.refused,

@@ -1,6 +1,6 @@
 -- The ledger, and the copies behind it.
-use Rattle.std.proofs.Common.{ℕ, List, ◌∷◌, length, ap, ap₂, arith, ◌∙◌}
-use Rattle.qc_opening.specs.Disks.{IsPairLeft}
+use Rattle.std.proofs.Common.{◌≡◌, ℕ, List, ◌∷◌, length, ap, ap₂, arith, ◌∙◌}
+use Rattle.qc_opening.specs.Disks.{FirstTells, IsPairLeft}
 use Rattle.qc_opening.specs.Images.{IsFirstInPairs}
 use Rattle.qc_opening.specs.Refusing.{ArePairsLeft, FailedAt, IsBehind, IsReasonAmong, TellInPairs}
 use Rattle.qc_opening.specs.Waiting.{waiting_in}
@@ -13,7 +13,7 @@ returns-in_err-ledger-clause-left g c =
     let old = waiting_in c.args.waiting.now in
     let new = waiting_in c.mount_ledger.new.waiting in
     let reason = c.in_err-ledger.field-0.0 in
-    by_err c.from_residual.result reason (λ r. ArePairsLeft g.D.Disk.view c.args.table.now r 0 old new) c.from_residual.ensures.1
+    by_err c.from_residual.result reason (λ r. ArePairsLeft g.D.Disk.view c.args.table.now (FirstTells g.D.Disk.view old) r 0 old new) c.from_residual.ensures.1
     (left_at_ledger c.args.table.now c.args.limit reason old new (omega (arith, c.requires.all, c.requires.few)) c.in_err-ledger.ensures.refused g.met.D.Disk.leaves_now)
 
 pub returns-in_err-ledger-clause-reason : goal.returns-in_err-ledger-clause-reason
@@ -38,7 +38,7 @@ pub put_back-requires : goal.put_back-requires
 put_back-requires g c =
     let reason = c.in-Err.no in
     let taken = c.in_ok-ledger.ensures.mounted in
-    let many = pairs_length (IsPairLeft g.D.Disk.view c.args.table.now (FailedAt reason) (IsBehind reason)) 1 (waiting_in c.mount_ledger.new.waiting) (waiting_in c.mount_copies.new.waiting) c.in-Err.ensures.left in
+    let many = pairs_length (IsPairLeft g.D.Disk.view c.args.table.now (λ p. p ≡ c.in_ok-ledger.past) (FailedAt reason) (IsBehind reason)) 1 (waiting_in c.mount_ledger.new.waiting) (waiting_in c.mount_copies.new.waiting) c.in-Err.ensures.left in
     let room = c.mount_copies.ensures.room (length (waiting_in c.args.waiting.now)) (c.mount_ledger.ensures.room (length (waiting_in c.args.waiting.now)) c.requires.room) in
     let size = ap length taken.old_is in
     (omega (arith, room.0, size, many), omega (arith, room.1, size, many))

@@ -2,7 +2,7 @@
 use Rattle.std.proofs.Common.{◌≡◌, ℕ, ◌+◌, List, length, subst, sym, arith, ◌∙◌}
 use Rattle.qc_codec.proofs.Fits.{table_sized}
 use Rattle.qc_codec.specs.Fields.{current_format}
-use Rattle.qc_opening.specs.Disks.{IsPairLeft}
+use Rattle.qc_opening.specs.Disks.{FirstTells, IsPairLeft}
 use Rattle.qc_opening.specs.Images.{images_in_pairs, IsFirstFault, IsFirstInPairs}
 use Rattle.qc_opening.specs.Refusing.{disks_in, AreLeft, FailedAt, IsBehind, IsReasonAmong, TellImages, TellInPairs}
 use Rattle.qc_opening.specs.Waiting.{waiting_in}
@@ -32,7 +32,7 @@ into_disks-requires g c =
     let reason = c.in-Err.no in
     let old = waiting_in c.new-waiting.result in
     let new = waiting_in c.mount_all.new.waiting in
-    let size : length new ≡ length old = pairs_length (IsPairLeft g.D.Disk.view c.args.table.now (FailedAt reason) (IsBehind reason)) 0 old new c.in-Err.ensures.left in
+    let size : length new ≡ length old = pairs_length (IsPairLeft g.D.Disk.view c.args.table.now (FirstTells g.D.Disk.view old) (FailedAt reason) (IsBehind reason)) 0 old new c.in-Err.ensures.left in
     let fresh = c.new-waiting.ensures.room in
     let all = c.new-waiting.ensures.all in
     let room = c.mount_all.ensures.room (length old) (omega (arith, fresh.0, all), omega (arith, fresh.1, all)) in

@@ -5,7 +5,7 @@ use Rattle.std.proofs.lemmas.List.{take_all}
 use Rattle.std.proofs.lemmas.List.Elements.{All-more}
 use Rattle.qc_site.specs.Mounted.{records_of}
 use Rattle.qc_system.specs.declared.parts.CopyPair.{CopyPair}
-use Rattle.qc_opening.specs.Mountings.{AreBytes}
+use Rattle.qc_site.specs.Image.{AreBytes}
 use Rattle.qc_opening.proofs.starting.copies_are_of_bytes.Goals as goal
 
 pub loop-copy-preserved : goal.loop-copy-preserved

@@ -2,7 +2,7 @@
 use Rattle.std.proofs.Common.{take}
 use Rattle.std.specs.Prelude.{All}
 use Rattle.qc_site.specs.Mounted.{records_of}
-use Rattle.qc_opening.specs.Mountings.{AreBytes}
+use Rattle.qc_site.specs.Image.{AreBytes}
 use Rattle.qc_opening.proofs.starting.copies_are_of_bytes.Given as goal
 
 abbrev pub invariant-loop-copy : goal.invariant-loop-copy

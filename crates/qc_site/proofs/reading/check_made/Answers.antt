@@ -7,7 +7,7 @@ use Rattle.qc_codec.specs.Bodies as body
 use Rattle.qc_codec.specs.Form.{all_of}
 use Rattle.qc_codec.specs.Ledger.{made_for, made_in}
 use Rattle.qc_codec.specs.declared.record.Made.{Made}
-use Rattle.qc_codec.proofs.Fits.{made_current, made_proper}
+use Rattle.qc_codec.proofs.Fits.{made_proper}
 use Rattle.qc_codec.proofs.Bases.{one_spelling, one_table}
 use Rattle.qc_codec.proofs.Bodies.{exact_made}
 use Rattle.qc_codec.proofs.Exact.{all_again}
@@ -32,9 +32,6 @@ returns-then-eq-2-clause-made c =
     let table = one_table kept made c.in_ok-write_made_anew.field-0.items same c.in-Ok.ensures.found.1 (made_proper c.args.who c.args.table.now (omega arith) c.requires.fits) c.in_ok-write_made_anew.ensures
     (sym c.as_slice.ensures.value ∙ (slice_eq-Decides Decides-eqb _ _ _ c.eq-2.ensures).0 c.if-eq-2.true ∙ c.requires.spelled) in
     c.in-Ok.ensures.exact ∙ ap₂ (λ (n : ℕ) (t : Table). Some (made_in kept.format n t)) same table
-
-pub returns-then-eq-2-clause-now : goal.returns-then-eq-2-clause-now
-returns-then-eq-2-clause-now c = made_current c.in-Ok.kept c.in-Ok.ensures.found.1
 
 pub returns-clause-fault : goal.returns-clause-fault
 returns-clause-fault c = λ past.

@@ -1,17 +1,14 @@
 -- What is wrong with the first body is the first fault of all.
-use Rattle.std.proofs.Common.{◌≡◌, ◌∷◌, ◌∙◌, Some, ap, sym, subst, length, drop, List, ℕ}
+use Rattle.std.proofs.Common.{◌∷◌, ◌∙◌, ap, sym, length, drop, List, ℕ}
 use Rattle.qc_journal.specs.Image.{bodies_of}
 use Rattle.qc_event.proofs.Numbers.{nonzero}
 use Rattle.qc_ledger.proofs.Firsts.{with_first}
-use Rattle.qc_site.specs.Image.{AreMadeIn, IsCopyFault}
+use Rattle.qc_site.specs.Image.{IsCopyFault}
 use Rattle.qc_site.specs.Reading.{IsFirstBad}
-use Rattle.qc_codec.specs.Bodies as body
-use Rattle.qc_codec.specs.Form.{all_of}
-use Rattle.qc_codec.specs.Ledger.{made_in}
 use Rattle.qc_codec.proofs.Fits.{table_sized}
 use Rattle.qc_codec.specs.Fields.{current_format}
 use Rattle.qc_site.proofs.Faults.{first_fault, handed_on}
-use Rattle.qc_site.proofs.Rests.{format_read}
+use Rattle.qc_site.proofs.Rests.{format_told}
 use Rattle.qc_site.proofs.reading.grants_of.Goals as goal
 
 pub returns-in_err-format-clause-fault : goal.returns-in_err-format-clause-fault
@@ -28,15 +25,19 @@ returns-in_err-format-clause-fault c = λ limit.
 -- the made record tells the format
 pub read_rest-requires-clause-format : goal.read_rest-requires-clause-format
 read_rest-requires-clause-format c =
-    let who = c.args.who in
-    let table = c.args.table.now in
     let bodies = c.args.bodies.now in
-    let format = c.in_ok-format.format in
     let v = c.index-bodies-0.result in
     let some = nonzero (length bodies) (sym c.is_empty.ensures ∙ c.if-is_empty.false) in
-    format_read who table format bodies some
-    (subst (AreMadeIn who table format) (sym (with_first bodies v some c.index-bodies-0.is))
-    (subst (λ (b : List ℕ). all_of body.made b ≡ Some (made_in format who table)) c.as_slice.ensures.value c.in_ok-format.ensures.made))
+    format_told c.args.who c.args.table.now c.in_ok-format.format (bodies_of bodies) v.items c.as_slice.result.now (bodies_of (drop 1 bodies))
+    (with_first bodies v some c.index-bodies-0.is) c.as_slice.ensures.value c.in_ok-format.ensures.made
+
+pub returns-clause-format : goal.returns-clause-format
+returns-clause-format c =
+    let bodies = c.args.bodies.now in
+    let v = c.index-bodies-0.result in
+    let some = nonzero (length bodies) (sym c.is_empty.ensures ∙ c.if-is_empty.false) in
+    format_told c.args.who c.args.table.now c.in_ok-format.format (bodies_of bodies) v.items c.as_slice.result.now (bodies_of (drop 1 bodies))
+    (with_first bodies v some c.index-bodies-0.is) c.as_slice.ensures.value c.in_ok-format.ensures.made
 
 pub read_second-requires-clause-small : goal.read_second-requires-clause-small
 read_second-requires-clause-small c = (table_sized current_format c.args.table.now c.requires.fits).records

@@ -1,7 +1,7 @@
 //! That bodies in memory are of bytes.
 ghost use Rattle.std.specs.Prelude.{ℕ, ◌<◌, All};
 ghost use Rattle.qc_journal.specs.Image.{bodies_of};
-ghost use Rattle.qc_opening.specs.Mountings.{AreBytes};
+ghost use Rattle.qc_site.specs.Image.{AreBytes};
 
 use qc_journal::Body;
 
