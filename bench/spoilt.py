@@ -85,9 +85,9 @@ def difference(before, after, wanted):
 
 def made_body(script, disk):
     """The body of the record that says how a disk was made for a script's table."""
-    body = b"\1\1" + bytes([disk, script.copies, len(script.records)])
+    body = b"\1\2" + bytes([disk, script.copies, len(script.records)])
     for name, (start, (votes, read, write)) in script.records.items():
-        body += bytes([len(name)]) + name.encode() + start.to_bytes(8, "big") + bytes([len(votes), *votes])
+        body += bytes([len(name)]) + name.encode() + b"\0" + start.to_bytes(8, "big") + bytes([len(votes), *votes])
         body += read.to_bytes(2, "big") + write.to_bytes(2, "big")
     return body
 
@@ -196,8 +196,8 @@ def tuples_in(image, records):
     """What the base of a copy's journal has of each record: version, value, generation and configuration."""
     base, at, tuples = base_in(image), 13, []
     for _ in range(records):
-        end = at + 25 + base[at + 24] + 4
-        tuples.append((*(number_in(base[place : place + 8]) for place in (at, at + 8, at + 16)), base[at + 24 : end]))
+        end = at + 26 + base[at + 25] + 4
+        tuples.append((*(number_in(base[place : place + 8]) for place in (at, at + 9, at + 17)), base[at + 25 : end]))
         at = end
     return tuples
 

@@ -11,10 +11,10 @@ SETTING = script_of([[["set", "x", 7]]])
 READING = script_of([[["read", "x"]]])
 NO_TOPS = script_of([])
 # The lengths of the records in their journals, each with its gate and length.
-MADE = 26
+MADE = 27
 EPOCH = 10
 TOP = 18
-GRANT = 55
+GRANT = 56
 
 
 def disk_fault(disk):

@@ -16,7 +16,8 @@ SPARE = MOST_COPIES + 1
 # A file that says that spares of the folder had bytes once.
 USED = "spares"
 GATES = (b"\x00", b"\x01")
-MADE = b"\x01\x01"
+# How a record begins that says how a disk was made, in either format. In the second 00 stands before a value.
+MADE = (b"\x01\x01", b"\x01\x02")
 BASE = b"\x04"
 KINDS = {stat.S_IFDIR: "a folder", stat.S_IFIFO: "a pipe", stat.S_IFSOCK: "a socket"}
 
@@ -98,7 +99,7 @@ def table_in(body):
     copies, count, at, records = body[3], body[4], 5, {}
     for _ in range(count):
         name = body[at + 1 : at + 1 + body[at]].decode("ascii")
-        at += 1 + body[at]
+        at += body[at] + body[1]
         start, voters = int.from_bytes(body[at : at + 8], "big"), body[at + 8]
         at += 9 + voters
         votes, read, write = [*body[at - voters : at]], body[at : at + 2], body[at + 2 : at + 4]

@@ -12,6 +12,8 @@ class Steps:
 
     def __init__(self, saved):
         self.saved, self.at = saved, 0
+        # a value is a number, which has 00 before it from the second format on
+        self.value = 8 if saved[5] == 1 else 9
 
     def take(self, count):
         self.at += count
@@ -28,25 +30,25 @@ class Steps:
         self.at += votes + 4
 
     def tuple(self):
-        self.at += 24
+        self.at += 16 + self.value
         self.config()
 
     def kind(self):
         kind = self.take(1)
-        self.at += {0: 5, 1: 1, 2: 9, 3: 1, 4: 0}[kind]
+        self.at += {0: 5, 1: 1, 2: 1 + self.value, 3: 1, 4: 0}[kind]
         if kind == 3:
             self.config()
 
     def operation(self):
         operation = self.take(1)
-        self.at += {0: 0, 1: 16, 2: 8}[operation]
+        self.at += {0: 0, 1: 8 + self.value, 2: 8}[operation]
         if operation == 2:
             self.config()
 
     def end(self):
         if self.take(1) == 0:
             answer = self.take(1)
-            self.at += {0: 0, 1: 8, 2: 8, 3: 0}[answer]
+            self.at += {0: 0, 1: self.value, 2: 8, 3: 0}[answer]
             if answer == 3:
                 self.tuple()
             return "commit"
@@ -140,6 +142,14 @@ def shortened(saved):
 CONFIG = bytes((1, 1)) + struct.pack(">HH", 1, 1)
 
 
+def number(value):
+    return struct.pack(">BQ", 0, value)
+
+
+def tuple_of(version, value):
+    return struct.pack(">Q", version) + number(value) + struct.pack(">Q", 0) + CONFIG
+
+
 def name_of(top, *rest):
     return struct.pack(">BQ", 1 + len(rest), (1 << 32) + top) + b"".join(struct.pack(">I", number) for number in rest)
 
@@ -148,9 +158,9 @@ def made(count, sessions=4):
     """A legal trail of at least so many entries over a copy: sessions in turn, whose tops each add one to a record."""
     holds = [0] * sessions
     versions = [0] * sessions
-    labels = b"".join(b"\x02r%d" % record + struct.pack(">Q", 0) + CONFIG for record in range(sessions))
-    body = bytes((1, 1, 0, 1, sessions)) + labels
-    base = bytes((1, sessions)) + (struct.pack(">QQQ", 0, 0, 0) + CONFIG) * sessions
+    labels = b"".join(b"\x02r%d" % record + number(0) + CONFIG for record in range(sessions))
+    body = bytes((1, 2, 0, 1, sessions)) + labels
+    base = bytes((1, sessions)) + tuple_of(0, 0) * sessions
     written, top = [], 0
 
     def put(seat, tag, *parts):
@@ -158,8 +168,8 @@ def made(count, sessions=4):
 
     def access(seat, record, name, operation):
         version, value = versions[record], holds[record]
-        told = struct.pack(">QQQ", version, value, 0) + CONFIG
-        ask = b"\0" if operation == 0 else b"\1" + struct.pack(">QQ", version, value)
+        told = tuple_of(version, value)
+        ask = b"\0" if operation == 0 else b"\1" + struct.pack(">Q", version) + number(value)
         put(seat, 1, name, b"\4")
         put(seat, 2, name, bytes((0, record)), ask)
         put(2, 4, b"\0", name, bytes((record, operation)), told)
@@ -172,8 +182,8 @@ def made(count, sessions=4):
         put(seat, 1, name_of(top), bytes((0, record)), struct.pack(">I", 0))
         put(seat, 1, name_of(top, 1), bytes((1, record)))
         access(seat, record, name_of(top, 1, 1), 0)
-        put(seat, 7, name_of(top, 1), b"\0\1", struct.pack(">Q", holds[record]))
-        put(seat, 1, name_of(top, 2), bytes((2, record)), struct.pack(">Q", holds[record] + 1))
+        put(seat, 7, name_of(top, 1), b"\0\1", number(holds[record]))
+        put(seat, 1, name_of(top, 2), bytes((2, record)), number(holds[record] + 1))
         access(seat, record, name_of(top, 2, 1), 0)
         holds[record] += 1
         versions[record] += 1

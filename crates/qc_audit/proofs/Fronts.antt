@@ -15,7 +15,7 @@ use Rattle.qc_event.specs.declared.table.Table.{Table}
 most_between : (least most n : ℕ) → (nat_le least n && nat_le n most) ≡ true → n ≤ most
 most_between least most n is = leb-true n most (and_parts (nat_le least n) (nat_le n most) is).1
 
-row_short : (copies : ℕ) (r : Row) → copies ≤ 16 → (row (current copies)).fits r → length ((row (current copies)).spell r) ≤ 46
+row_short : (copies : ℕ) (r : Row) → copies ≤ 16 → (row (current copies)).fits r → length ((row (current copies)).spell r) ≤ 47
 unfolding row label datum number_datum long half config
 row_short copies r few fits =
     let name = most_between 1 16 (length r.name) fits.0.0.0.0.0.1 in
@@ -27,7 +27,7 @@ row_short copies r few fits =
       length-append r.config.votes (half.spell r.config.read ++ half.spell r.config.write),
     )
 
-rows_short : (copies : ℕ) (rows : List Row) → copies ≤ 16 → All (row (current copies)).fits rows → length (flat_map (row (current copies)).spell rows) ≤ 46 * length rows
+rows_short : (copies : ℕ) (rows : List Row) → copies ≤ 16 → All (row (current copies)).fits rows → length (flat_map (row (current copies)).spell rows) ≤ 47 * length rows
 rows_short copies [] few fits = omega arith
 rows_short copies (r ∷ rows) few fits =
     let here = row_short copies r few (All-head (row (current copies)).fits r rows fits) in

@@ -3,7 +3,7 @@ use mathlib.Core.Bool.{true≢false}
 use Rattle.std.proofs.Common.{◌≡◌, ℕ, suc, ◌/◌, ◌%◌, ◌^◌, ◌<◌, ◌≤◌, Bool, true, false, List, [], ◌∷◌, length, refl, sym, subst, ap, arith}
 use Rattle.std.specs.Prelude.{◌==◌, Option, None, Some, nat_le, nat_lt, is_none, slice_index}
 use Rattle.std.specs.List.{All}
-use Rattle.std.proofs.lemmas.Bool.{and_parts, and_from, eqb-true, leb-true, ltb-true, le-leb, lt-ltb}
+use Rattle.std.proofs.lemmas.Bool.{and_parts, and_from, leb-true, ltb-true, le-leb, lt-ltb}
 use Rattle.std.proofs.lemmas.List.Elements.{All-nil, All-cons, All-head, All-tail, All-from_get_or}
 use Rattle.qc_names.specs.Name.{longest}
 use Rattle.qc_config.proofs.Faults.{legal_unless_fault}
@@ -92,11 +92,6 @@ making_sized m fits = table_sized m.format m.table fits.0.1.1
 pub made_sized : (m : Made) → made.fits m → IsSized m.table
 unfolding made
 made_sized m fits = making_sized m fits
-
--- a made record is of the current format
-pub made_current : (m : Made) → made.fits m → m.format ≡ current_format
-unfolding made making
-made_current m fits = eqb-true m.format current_format fits.0.0.1
 
 -- A FORMAT BEHIND ANOTHER
 

@@ -20,7 +20,7 @@ layout copies format = record { copies = copies; format = format }
 
 -- the format in which journals and trails are written
 abbrev pub current_format : ℕ
-current_format = 1
+current_format = 2
 
 -- for so many copies in the current format
 abbrev pub current : ℕ → Layout

@@ -26,7 +26,7 @@ const RECORDS: u8 = 64;
 const LETTERS: u8 = 16;
 
 /// The format in which journals and trails are written.
-pub const FORMAT: u8 = 1;
+pub const FORMAT: u8 = 2;
 
 // Whether all bytes are letters and digits.
 fn is_plain(text: &[u8]) -> bool
@@ -137,7 +137,7 @@ impl Cursor<'_> {
         ensures { Reads body.making result self.old self.new }
     {
         let format = self.byte()?;
-        if format != FORMAT {
+        if format == 0 || format > FORMAT {
             return Err(CodecNo::Bad);
         }
         let who = self.byte()?;

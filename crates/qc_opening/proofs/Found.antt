@@ -1,9 +1,9 @@
 -- What was found on each pair of disks of a store that was mounted.
 use Rattle.std.proofs.Common.{◌≡◌, ℕ, ◌+◌, ◌≤◌, Bool, true, false, List, [], ◌∷◌, map, refl, sym, ap, ap₂, ◌∙◌, subst}
-use Rattle.std.specs.Prelude.{if◌then◌else◌, not, Option, IfSome, IsSome, is_some, slice_index_or}
+use Rattle.std.specs.Prelude.{if◌then◌else◌, not, Option, Some, IfSome, IsSome, is_some, slice_index_or}
 use Rattle.qc_codec.specs.Bodies as body
 use Rattle.qc_codec.specs.Ledger.{made_for}
-use Rattle.qc_disk.specs.Disk.{DiskView}
+use Rattle.qc_disk.specs.Disk.{DiskView, IsImage}
 use Rattle.qc_disk.specs.declared.disk.Disk.{Ghosts}
 use Rattle.qc_event.specs.declared.table.Table.{Table}
 use Rattle.qc_journal.specs.Image.{HasRecords}
@@ -62,19 +62,23 @@ module _ {D : Type 0} {g : Ghosts D} where
   abbrev pub epoch_found : LedgerPair D g → ℕ
   epoch_found ledger = epoch_in ledger.fold
 
-  module _ (table : Table) (told : List (Option (List ℕ))) (ledger : LedgerPair D g) (copies : List (CopyPair D g)) where
-    -- what the active disk of a pair told, and the other one
-    abbrev active_told : ℕ → Option (List ℕ)
-    active_told pair = of_active table (swapped_found ledger copies) (told_by told) pair
+  -- what was found where this had been told, before any fold
+  module _ (table : Table) (given : List (Option (List ℕ))) (ledger : LedgerPair D g) (copies : List (CopyPair D g)) where
+    abbrev pub active_given : ℕ → Bool
+    active_given pair = is_some (of_active table (swapped_found ledger copies) (told_by given) pair)
 
-    abbrev other_told : ℕ → Option (List ℕ)
-    other_told pair = of_other table (swapped_found ledger copies) (told_by told) pair
+    abbrev pub other_given : ℕ → Bool
+    other_given pair = is_some (of_other table (swapped_found ledger copies) (told_by given) pair)
+
+    -- the bodies that the other disk of a pair shows as it was mounted
+    abbrev pub bodies_shown : ℕ → List (List ℕ)
+    bodies_shown pair = bodies_told (g.view (other_found ledger copies pair)).content
 
     abbrev pub found_on_active : ℕ → Found
-    found_on_active pair = record { told = is_some (active_told pair); before = bodies_found ledger copies pair; first = g.view (active_found ledger copies pair) }
+    found_on_active pair = record { told = active_given pair; before = bodies_found ledger copies pair; first = g.view (active_found ledger copies pair) }
 
     abbrev pub found_on_other : ℕ → Found
-    found_on_other pair = record { told = is_some (other_told pair); before = bodies_told (other_told pair); first = g.view (other_found ledger copies pair) }
+    found_on_other pair = record { told = other_given pair; before = bodies_shown pair; first = g.view (other_found ledger copies pair) }
 
     abbrev pub found_of : Findings
     found_of = record {
@@ -87,11 +91,19 @@ module _ {D : Type 0} {g : Ghosts D} where
       epoch = epoch_found ledger;
     }
 
+  module _ (table : Table) (told : List (Option (List ℕ))) (ledger : LedgerPair D g) (copies : List (CopyPair D g)) where
+    -- what the active disk of a pair told, and the other one
+    abbrev active_told : ℕ → Option (List ℕ)
+    active_told pair = of_active table (swapped_found ledger copies) (told_by told) pair
+
+    abbrev other_told : ℕ → Option (List ℕ)
+    other_told pair = of_other table (swapped_found ledger copies) (told_by told) pair
+
     module _ (counts : List ℕ) where
-      -- A pair was mounted from these disks, with this active journal and these records.
-      pub record IsPairAt (pair : ℕ) (fold : Fold D g) (journal : Journal D g) (records : List (List ℕ)) (disks : D × D) : Type 0 where
-        pub own_told : told_by told pair ≡ (g.view disks.0).content
-        pub spare_told : told_by told (table.copies + 1 + pair) ≡ (g.view disks.1).content
+      -- A pair was mounted from these disks, which tell this now, with this active journal and these records.
+      pub record IsPairAt (pair : ℕ) (fold : Fold D g) (journal : Journal D g) (records : List (List ℕ)) (disks : D × D) (now : Option (List ℕ) × Option (List ℕ)) : Type 0 where
+        pub own_told : told_by told pair ≡ now.0
+        pub spare_told : told_by told (table.copies + 1 + pair) ≡ now.1
         pub own_counted : counted_by counts pair ≡ (g.view disks.0).faults
         pub spare_counted : counted_by counts (table.copies + 1 + pair) ≡ (g.view disks.1).faults
         pub own_later : (g.view disks.0).faults ≤ (g.view (own_disk fold (disk_of journal))).faults
@@ -101,24 +113,24 @@ module _ {D : Type 0} {g : Ghosts D} where
         pub active_is : active_found ledger copies pair ≡ disk_of journal
         pub other_is : other_found ledger copies pair ≡ disk_of (other_in fold)
         pub up : IsUp journal
-        pub keeps : IsSome (if swapped_in fold then (g.view disks.1).content else (g.view disks.0).content) → Keeps journal records
+        pub keeps : IsSome (if swapped_in fold then now.1 else now.0) → Keeps journal records
         pub other_up : IsUp (other_in fold)
         pub others : List (List ℕ)
-        pub others_had : IfSome (if swapped_in fold then (g.view disks.0).content else (g.view disks.1).content) (HasRecords others)
-        pub keeps_other : IsSome (if swapped_in fold then (g.view disks.0).content else (g.view disks.1).content) → Keeps (other_in fold) others
+        pub others_had : IfSome (if swapped_in fold then now.0 else now.1) (HasRecords others)
+        pub keeps_other : IsSome (if swapped_in fold then now.0 else now.1) → Keeps (other_in fold) others
         pub number_is : numbers_found ledger copies pair ≡ active_number fold
         pub other_limit : limit_of (other_in fold) ≡ limit_found ledger
         pub made_is : made_in fold ≡ body.made.spell (made_for (number_at (not (swapped_in fold)) pair) table)
         pub epoch_is : epoch_in fold ≡ epoch_found ledger
         pub copies_are : copies_in fold ≡ table.copies
 
-      module _ (pair : ℕ) (fold : Fold D g) (journal : Journal D g) (records : List (List ℕ)) (disks : D × D) (at : IsPairAt pair fold journal records disks) where
+      module _ (pair : ℕ) (fold : Fold D g) (journal : Journal D g) (records : List (List ℕ)) (disks : D × D) (now : Option (List ℕ) × Option (List ℕ)) (at : IsPairAt pair fold journal records disks now) where
         -- WHAT WAS TOLD
 
-        pub active_told_is : active_told pair ≡ (if swapped_in fold then (g.view disks.1).content else (g.view disks.0).content)
+        pub active_told_is : active_told pair ≡ (if swapped_in fold then now.1 else now.0)
         active_told_is = one_same at.swapped_is at.own_told at.spare_told
 
-        other_told_is : other_told pair ≡ (if swapped_in fold then (g.view disks.0).content else (g.view disks.1).content)
+        other_told_is : other_told pair ≡ (if swapped_in fold then now.0 else now.1)
         other_told_is = one_same at.swapped_is at.spare_told at.own_told
 
         keeps_active : is_some (active_told pair) ≡ true → Keeps journal records
@@ -131,24 +143,32 @@ module _ {D : Type 0} {g : Ghosts D} where
             let read : bodies_told (other_told pair) ≡ at.others = ap bodies_told other_told_is ∙ told_read _ at.others at.others_had tells_so in
             subst (Keeps (other_in fold)) (sym read) (at.keeps_other tells_so)
 
+        -- so do those that it shows
+        pub shown_read : ((disk : D) → IsImage (g.view disk).content (g.view disk).may_leave) → is_some (other_told pair) ≡ true → bodies_shown table told ledger copies pair ≡ bodies_told (other_told pair)
+        shown_read law tells =
+            let k = keeps_read tells in
+            let had = kept_has (other_in fold) (bodies_told (other_told pair)) k.bytes at.other_up k (subst (λ o. IsImage o (g.view (disk_of (other_in fold))).may_leave) k.told (law (disk_of (other_in fold)))) in
+            ap (λ d. bodies_told (g.view d).content) at.other_is ∙ ap bodies_told k.told ∙ told_read (Some k.bytes) (bodies_told (other_told pair)) had refl
+
         -- WHAT A SYSTEM ASKS
 
-        pub active_found_so : IsFound (found_on_active pair) records journal
-        active_found_so = record {
+        pub active_found_so : (given : List (Option (List ℕ))) → (active_given table given ledger copies pair ≡ true → is_some (active_told pair) ≡ true) → IsFound (found_on_active table given ledger copies pair) records journal
+        active_found_so given still = record {
           same = at.bodies_are;
-          keeps = keeps_active;
+          keeps = λ tells. keeps_active (still tells);
           count = ap (λ d. (g.view d).faults) at.active_is;
           at = ap (λ d. (g.view d).moment) at.active_is;
           left = subst (λ d. LeftAlike (g.view d) (g.view (disk_of journal))) (sym at.active_is) (alike_itself (g.view (disk_of journal)));
         }
 
-        pub other_found_so : (many : ℕ) → many ≡ table.copies → IsOther many found_of pair fold
-        other_found_so many same = record {
+        pub other_found_so : (given : List (Option (List ℕ))) → (other_given table given ledger copies pair ≡ true → is_some (other_told pair) ≡ true) → ((disk : D) → IsImage (g.view disk).content (g.view disk).may_leave) → (many : ℕ) → many ≡ table.copies
+            → IsOther many (found_of table given ledger copies) pair fold
+        other_found_so given still law many same = record {
           swapped = sym at.swapped_is;
           up = at.other_up;
           disk = record {
             same = refl;
-            keeps = keeps_read;
+            keeps = λ tells. subst (Keeps (other_in fold)) (sym (shown_read law (still tells))) (keeps_read (still tells));
             count = ap (λ d. (g.view d).faults) at.other_is;
             at = ap (λ d. (g.view d).moment) at.other_is;
             left = subst (λ d. LeftAlike (g.view d) (g.view (disk_of (other_in fold)))) (sym at.other_is) (alike_itself (g.view (disk_of (other_in fold))));

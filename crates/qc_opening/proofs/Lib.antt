@@ -5,9 +5,11 @@ pub mod OtherBodies
 pub mod Epochs
 pub mod Proper
 pub mod Found
+pub mod CopiesNow
 pub mod MountedStore
 pub mod Unboxed
 pub mod Otherwise
+pub mod ShownNow
 pub mod KeptOtherwise
 pub mod KeptPlaces
 pub mod Told

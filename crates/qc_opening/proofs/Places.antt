@@ -3,7 +3,6 @@ use Rattle.std.proofs.Common.{◌≡◌, ℕ, zero, suc, ◌+◌, ◌<◌, List,
 use Rattle.std.specs.Prelude.{All, Some, slice_get, reverse}
 use Rattle.std.proofs.lemmas.List.{append_assoc, map-append, reverse-append, reverse-reverse}
 use Rattle.std.proofs.lemmas.Option.{get_or_from_slice_get, slice_get_within}
-use Rattle.qc_opening.specs.Numbered.{PairsFrom}
 
 -- turned round, the last item comes first
 last_first : {A B : Type 0} (f : A → B) (all rest : List A) (last : A) → all ≡ rest ++ last ∷ [] → reverse (map f all) ≡ f last ∷ reverse (map f rest)
@@ -40,19 +39,6 @@ pub mapped_at : {A B : Type 0} (f : A → B) (xs : List A) (i : ℕ) (x : A) (d 
 mapped_at f [] i x d is = absurd cc
 mapped_at f (y ∷ xs) zero x d is = let same : y ≡ x = cc in ap f same
 mapped_at f (y ∷ xs) (suc i) x d is = mapped_at f xs i x d is
-
--- the pair at a place
-pub pair_at : {A B : Type 0} (R : ℕ → A → B → Type 0) (number : ℕ) (items : List A) (others : List B) → PairsFrom R number items others → (i : ℕ) (other : B) → slice_get others i ≡ Some other
-    → (item : A) × (slice_get items i ≡ Some item) × R (number + i) item other
-pair_at R number [] [] pairs i other is = absurd cc
-pair_at R number [] (o ∷ others) pairs i other is = absurd pairs
-pair_at R number (item ∷ items) [] pairs i other is = absurd pairs
-pair_at R number (item ∷ items) (o ∷ others) pairs zero other is =
-    let same : o ≡ other = cc in
-    (item, refl, subst (λ n. R n item other) (omega arith) (subst (λ x. R number item x) same pairs.0))
-pair_at R number (item ∷ items) (o ∷ others) pairs (suc i) other is =
-    let (found, there, has) = pair_at R (number + 1) items others pairs.1 i other is in
-    (found, there, subst (λ n. R n found other) (omega arith) has)
 
 -- what holds of each holds of the one at a place
 pub all_at : {A : Type 0} (P : A → Type 0) (xs : List A) (i : ℕ) (x : A) → All P xs → slice_get xs i ≡ Some x → P x

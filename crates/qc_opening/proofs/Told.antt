@@ -17,17 +17,20 @@ use Rattle.qc_opening.specs.Numbered.{EachFrom}
 use Rattle.qc_opening.specs.Pairs.{made_other, of_active, of_other, HaveNoGrantsInPairs, MountedInPairs}
 use Rattle.qc_opening.specs.Parts.{counted_by}
 use Rattle.qc_opening.specs.Refusing.{disks_in, reason_in, AreLeft}
+use Rattle.qc_opening.specs.SinceFolds.{SinceFolds, TellSinceFolds}
 use Rattle.qc_opening.specs.Stored.{disks_of, past_of, returned, AllTell, AreImages, HasKept, HasRun, HavePaid, WasMounted, WereFolded}
 use Rattle.qc_opening.specs.declared.mount_no.MountNo.{MountNo}
 use Rattle.qc_opening.specs.declared.stored.Stored.{Stored}
 use Rattle.qc_opening.proofs.Epochs.{of_epoch}
 use Rattle.qc_opening.proofs.KeptDisks.KeptPairs.ImagesKept.{images_left}
-use Rattle.qc_opening.proofs.KeptDisks.KeptPairs.NextMounting.{first_start, restores}
+use Rattle.qc_opening.proofs.KeptDisks.KeptPairs.NextMounting.{first_start}
 use Rattle.qc_opening.proofs.KeptDisks.KeptPairs.PairsStand.{stand}
+use Rattle.qc_opening.proofs.KeptDisks.KeptPairs.RenewedImages.{none_since, renewed_restore}
 use Rattle.qc_opening.proofs.KeptOtherwise.{keep_otherwise}
 use Rattle.qc_opening.proofs.KeptPlaces.{disks_many}
 use Rattle.qc_opening.proofs.Otherwise.{active_tells, mounted_otherwise, numbers_otherwise, other_tells, others_otherwise, some_too, TellAsMuch}
 use Rattle.qc_opening.proofs.Mountings.Refused.{left_length}
+use Rattle.qc_opening.proofs.ShownNow.{all_tell_now, shown_as_much, shown_now, since_otherwise}
 use Rattle.qc_refine.specs.Pairs.{RestoreInPairs, StandInPairsWithin}
 use Rattle.qc_script.specs.Plan.{ScriptPlan}
 use Rattle.qc_desk.specs.Entries.{entries_of}
@@ -73,19 +76,47 @@ tell_images table offers told images offered tells place low =
 
 -- THE MOUNTING
 
-module _ {D : Type 0} (view : D → DiskView) (plan : ScriptPlan) (most : ℕ) (told : ℕ → Option (List ℕ)) (counts : ℕ → ℕ) (stored : Stored D) (run : HasRun view plan most told counts stored) where
+module _ {D : Type 0} (view : D → DiskView) (plan : ScriptPlan) (most : ℕ) (told : ℕ → Option (List ℕ)) (counts : ℕ → ℕ) (stored : Stored D) (since : SinceFolds plan.table told (λ now. HasRun view plan most now counts stored)) where
+  -- where it was told what was offered, or images were, so it is since
+  abbrev now : ℕ → Option (List ℕ)
+  now = since.0
+
+  abbrev run_since : HasRun view plan most now counts stored
+  run_since = since.2
+
+  mounted_since : (offers : ℕ → Option (List ℕ)) → MountedInPairs plan.table (shown_now offers now) run_since.kept.records stored.epoch stored.ended.start
+  mounted_since offers = mounted_otherwise plan.table (shown_now offers now) now run_since.kept.records stored.epoch stored.ended.start (shown_as_much plan.table offers now) run_since.kept.mounted
+
   pub restored : (offers : ℕ → Option (List ℕ)) → TellAsMuch plan.table (by_place plan.table.copies offers) told → (images : List (List ℕ)) → Offers plan.table offers images → RestoreInPairs plan.table images stored.ended.start
   restored offers tells images offered =
-      restores plan.table images run.kept.records stored.epoch stored.ended.start
-      (mounted_otherwise plan.table (λ place. Some (get_or images place [])) told run.kept.records stored.epoch stored.ended.start (tell_images plan.table offers told images offered tells) run.kept.mounted)
-      offered.all
+      let Told : ℕ → Option (List ℕ) = λ place. Some (get_or images place []) in
+      renewed_restore plan.table images (shown_now Told now) (since_otherwise plan.table told now since.1 Told (tell_images plan.table offers told images offered tells)) run_since.kept.records stored.epoch stored.ended.start (mounted_since Told) offered.all
 
+  module _ (offers : ℕ → Option (List ℕ)) (tells : TellAsMuch plan.table offers told) where
+    now_since : TellSinceFolds plan.table offers (shown_now offers now)
+    now_since = since_otherwise plan.table told now since.1 offers tells
+
+    pub first : HaveNoGrantsInPairs plan.table offers → stored.ended.start ≡ base_of plan.table
+    first none =
+        first_start plan.table (shown_now offers now) run_since.kept.records stored.epoch stored.ended.start (mounted_since offers) (none_since plan.table offers (shown_now offers now) now_since none)
+
+    pub stands : ((disk : D) (c : List ℕ) → (view disk).left_at (view disk).moment c ↔ (view disk).may_leave c) → AllTell plan.table.copies offers → (images : List (List ℕ)) → AreImages view stored.ended.disks.items images
+        → ∥ StandInPairsWithin 1 plan.table stored.ended.start stored.epoch (past_of stored) images ∥₁
+    stands here all_tell images left =
+        let k = run_since.kept in
+        ∥∥₁_elim
+        (images_left view plan.table now k.records stored.epoch stored.ended.start k.mounted k.others k.numbers k.numbers_are most (λ pair. view (k.firsts pair)) (λ pair. view (k.other_firsts pair)) (IsOk stored.ended.ran) stored.ended.disks.items (past_of stored) k.kept
+        (λ place low. some_too (shown_now offers now place) (now place) (shown_as_much plan.table offers now place low) (all_tell_now plan.table offers (shown_now offers now) now_since all_tell place low)) images left k.others_are here)
+        ∥∥₁_prop
+        (λ left. stand plan.table now k.records stored.epoch stored.ended.start k.mounted (past_of stored) images run_since.legal bounded (of_epoch stored.epoch (past_of stored) bounded run_since.begins.numbers) left)
+      where
+        bounded : length (past_of stored) ≤ limit
+        bounded = omega (arith, run_since.bounded, length-reverse stored.ended.trail)
+
+module _ {D : Type 0} (view : D → DiskView) (plan : ScriptPlan) (most : ℕ) (told : ℕ → Option (List ℕ)) (counts : ℕ → ℕ) (stored : Stored D) (run : HasRun view plan most told counts stored) where
   module _ (offers : ℕ → Option (List ℕ)) (tells : TellAsMuch plan.table offers told) where
     mounted : MountedInPairs plan.table offers run.kept.records stored.epoch stored.ended.start
     mounted = mounted_otherwise plan.table offers told run.kept.records stored.epoch stored.ended.start tells run.kept.mounted
-
-    pub first : HaveNoGrantsInPairs plan.table offers → stored.ended.start ≡ base_of plan.table
-    first none = first_start plan.table offers run.kept.records stored.epoch stored.ended.start mounted none
 
     -- KEEPING
 
@@ -122,23 +153,10 @@ module _ {D : Type 0} (view : D → DiskView) (plan : ScriptPlan) (most : ℕ) (
               view (past_of stored) (IsOk stored.ended.ran) stored.ended.disks.items k.kept;
         }
 
-    -- STANDING
+    -- FOLDING
 
     all_told : AllTell plan.table.copies offers → AllTell plan.table.copies told
     all_told all_tell place low = some_too (offers place) (told place) (tells place low) (all_tell place low)
-
-    pub stands : ((disk : D) (c : List ℕ) → (view disk).left_at (view disk).moment c ↔ (view disk).may_leave c) → AllTell plan.table.copies offers → (images : List (List ℕ)) → AreImages view stored.ended.disks.items images
-        → ∥ StandInPairsWithin 1 plan.table stored.ended.start stored.epoch (past_of stored) images ∥₁
-    stands now all_tell images left =
-        let k = run.kept in
-        ∥∥₁_elim
-        (images_left view plan.table told k.records stored.epoch stored.ended.start k.mounted k.others k.numbers k.numbers_are most (λ pair. view (k.firsts pair)) (λ pair. view (k.other_firsts pair)) (IsOk stored.ended.ran) stored.ended.disks.items (past_of stored) k.kept
-        (all_told all_tell) images left k.others_are now)
-        ∥∥₁_prop
-        (λ left. stand plan.table told k.records stored.epoch stored.ended.start k.mounted (past_of stored) images run.legal bounded (of_epoch stored.epoch (past_of stored) bounded run.begins.numbers) left)
-      where
-        bounded : length (past_of stored) ≤ limit
-        bounded = omega (arith, run.bounded, length-reverse stored.ended.trail)
 
     -- what disks have counted since they were given, they have since the shop told of them
     pub paid : (shop : ℕ → ℕ) → ((place : ℕ) → place < all_places plan.table.copies → counts place ≡ shop place) → HavePaid view plan.table offers shop stored.epoch stored.ended.start (disks_of stored) (past_of stored)
@@ -179,9 +197,11 @@ module _ {D : Type 0} (view : D → DiskView) (plan : ScriptPlan) (most : ℕ) (
             omega (arith, many, there)
 
 -- whatever the answer, all disks are handed back
-pub all_returned : {D : Type 0} (view : D → DiskView) (plan : ScriptPlan) (most : ℕ) (told : ℕ → Option (List ℕ)) (counts : ℕ → ℕ) (disks : List D) (answer : Result (Stored D) (MountNo D)) → length disks ≡ all_places plan.table.copies → IfOk answer (HasRun view plan most told counts)
+pub all_returned : {D : Type 0} (view : D → DiskView) (plan : ScriptPlan) (most : ℕ) (told : ℕ → Option (List ℕ)) (counts : ℕ → ℕ) (disks : List D) (answer : Result (Stored D) (MountNo D)) → length disks ≡ all_places plan.table.copies → IfOk answer (λ stored. SinceFolds plan.table told (λ now. HasRun view plan most now counts stored))
     → IfErr answer (λ refused. AreLeft view plan.table (reason_in refused) disks (disks_in refused)) → returned answer ≡ all_places plan.table.copies
-all_returned view plan most told counts disks (Ok stored) all ran left = disks_many view (setting_of plan.table stored.ended.start) _ plan.table (IsOk stored.ended.ran) (disks_of stored) (past_of stored) ran.kept.kept ran.kept.mounted.mounted.as_many
+all_returned view plan most told counts disks (Ok stored) all since left =
+    let k = since.2.kept in
+    disks_many view (setting_of plan.table stored.ended.start) _ plan.table (IsOk stored.ended.ran) (disks_of stored) (past_of stored) k.kept k.mounted.mounted.as_many
 all_returned view plan most told counts disks (Err refused) all ran left = left_length view plan.table (reason_in refused) disks (disks_in refused) left ∙ all
 
 -- those of an error that was handed on are handed back

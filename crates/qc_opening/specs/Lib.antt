@@ -4,6 +4,7 @@ pub mod Stored
 pub mod Numbered
 pub mod Waiting
 pub mod Disks
+pub mod SinceFolds
 pub mod Images
 pub mod Refusing
 pub mod Obtained

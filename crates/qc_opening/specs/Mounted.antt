@@ -2,7 +2,6 @@
 use Rattle.std.specs.Prelude.{ℕ, ◌≡◌, ◌+◌, false, true, not, List, ◌∷◌, ◌++◌}
 use Rattle.qc_disk.specs.Disk.{DiskView}
 use Rattle.qc_disk.specs.declared.disk.Disk.{Ghosts}
-use Rattle.qc_codec.specs.Fields.{current_format}
 use Rattle.qc_codec.specs.declared.past.Past.{Past}
 use Rattle.qc_event.specs.declared.table.Table.{Table}
 use Rattle.qc_journal.specs.Journal.{disk_of, limit_of, IsUp}
@@ -16,7 +15,7 @@ use Rattle.qc_pair.specs.Fold.{own_disk, spare_disk, swapped_in, IsFoldFor}
 use Rattle.qc_pair.specs.Pair.{number_at}
 use Rattle.qc_site.specs.Image as grants
 use Rattle.qc_site.specs.Mounted as copy
-use Rattle.qc_site.specs.Pairs.{FindsCopyPair}
+use Rattle.qc_site.specs.Pairs.{MountsCopyPair}
 use Rattle.qc_site.specs.Renewal.{restored_in}
 use Rattle.qc_site.specs.Start.{start_of}
 use Rattle.qc_system.specs.declared.parts.CopyPair.{CopyPair}
@@ -45,7 +44,7 @@ module _ {D : Type 0} {g : Ghosts D} where
 
     -- A copy was mounted from a pair of disks, behind a past and for an epoch: it starts with what its records restore.
     pub record IsCopy (past : Past) (epoch limit number : ℕ) (disks : D × D) (pair : CopyPair D g) : Type 0 where
-      pub mounts : FindsCopyPair number table past limit current_format (g.view disks.0).content (g.view disks.1).content pair.copy pair.fold
+      pub mounts : MountsCopyPair number table past limit (g.view disks.0).content (g.view disks.1).content pair.copy pair.fold
       pub number_is : copy.copy_of pair.copy ≡ number
       pub copies : copy.copies_of pair.copy ≡ table.copies
       pub limit_is : limit_of (copy.journal_of pair.copy) ≡ limit

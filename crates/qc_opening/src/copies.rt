@@ -31,7 +31,6 @@ fn mount_copy<D: Disk>(
     requires copy { copy < table.now.copies }
     requires few { table.now.copies ≤ 16 }
     requires proper { (body.table current_format).fits table.now }
-    requires begun { 0 < epoch }
     requires some { 0 < length (waiting_in waiting.old) }
     requires room { HasRoom (length (waiting_in waiting.old)) waiting.old }
     ensures mounted { IfOk result (λ mounted. IsTaken
@@ -80,7 +79,6 @@ pub(crate) fn mount_copies<D: Disk>(
 ) -> Result<Vec<CopyPair<D>>, PairNo>
     requires proper { (body.table current_format).fits table.now }
     requires few { table.now.copies ≤ 16 }
-    requires begun { 0 < epoch }
     requires all { length (waiting_in waiting.old) ≡ table.now.copies }
     requires room { HasRoom (length (waiting_in waiting.old)) waiting.old }
     ensures none { IfOk result (λ copies. waiting_in waiting.new ≡ []) }

@@ -13,6 +13,7 @@ ghost use Rattle.qc_opening.specs.Disks.{by_place, first_numbers};
 ghost use Rattle.qc_opening.specs.Images.{AreSound, Offers};
 ghost use Rattle.qc_opening.specs.Obtained.{IsNotGiven};
 ghost use Rattle.qc_opening.specs.Refusing.{ComeBack, IsFaultOf, IsNotMounted};
+ghost use Rattle.qc_opening.specs.SinceFolds.{SinceFolds};
 ghost use Rattle.qc_opening.specs.Stored.{disks_of, past_of, returned, AllTell, AreImages, HasKept, HaveGrown, HavePaid, UnablesHadCause, WereFolded};
 ghost use Rattle.qc_refine.specs.Pairs.{RestoreInPairs, StandInPairsWithin};
 ghost use Rattle.qc_script.specs.Reading.{IsProper};
@@ -72,7 +73,8 @@ where
         (by_place script.now.table.copies ((H.view shop.old).offers place.now))
         → IfOk result (λ stored. stored.ended.start ≡ base_of script.now.table) }
 
-    // Of each pair the active disk keeps what was found on it, and then what the history tells, where the shop told its
+    // A copy's pair of an older format was folded first, and what follows goes by what the disks tell since then. Of each
+    // pair the active disk keeps what was found on it, and then what the history tells, where the shop told its
     // bytes; the other one keeps what was found on it, or was folded into. Where it told those of all, whatever a crash
     // leaves of them stands beside the history. At each moment since an active disk was mounted a crash left the records of
     // then, and behind them those of the run up to some time; and no record was lost again. Before, it left what it left of
@@ -80,31 +82,36 @@ where
     // fault since the shop gave it. Where such a disk told its bytes, each top that the ledger had no room for, and each
     // grant that a copy had none for, would with its record have passed the limit behind what the disk had then; and such a
     // copy is never strange.
-    ensures kept { IfOk result (HasKept H.D.view script.now.table limit
-        (by_place script.now.table.copies ((H.view shop.old).offers place.now))) }
+    ensures kept { IfOk result (λ stored. SinceFolds script.now.table
+        (by_place script.now.table.copies ((H.view shop.old).offers place.now))
+        (λ now. HasKept H.D.view script.now.table limit now stored)) }
     ensures stands { AllTell script.now.table.copies
         (by_place script.now.table.copies ((H.view shop.old).offers place.now))
         → IfOk result (λ stored. (images : List (List ℕ))
         → AreImages H.D.view (disks_of stored) images
         → ∥ StandInPairsWithin 1 script.now.table stored.ended.start stored.epoch
         (past_of stored) images ∥₁) }
-    ensures grown { IfOk result (λ stored. HaveGrown H.D.view script.now.table
-        (by_place script.now.table.copies ((H.view shop.old).offers place.now)) stored.epoch
-        stored.ended.start (disks_of stored) (past_of stored)) }
-    ensures paid { IfOk result (λ stored. HavePaid H.D.view script.now.table
+    ensures grown { IfOk result (λ stored. SinceFolds script.now.table
         (by_place script.now.table.copies ((H.view shop.old).offers place.now))
+        (λ now. HaveGrown H.D.view script.now.table now stored.epoch stored.ended.start
+        (disks_of stored) (past_of stored))) }
+    ensures paid { IfOk result (λ stored. SinceFolds script.now.table
+        (by_place script.now.table.copies ((H.view shop.old).offers place.now))
+        (λ now. HavePaid H.D.view script.now.table now
         (by_place script.now.table.copies ((H.view shop.old).counts place.now)) stored.epoch
-        stored.ended.start (disks_of stored) (past_of stored)) }
-    ensures unable { IfOk result (λ stored. UnablesHadCause script.now.table limit
-        (by_place script.now.table.copies ((H.view shop.old).offers place.now)) stored.epoch
-        stored.ended.start (past_of stored)) }
+        stored.ended.start (disks_of stored) (past_of stored))) }
+    ensures unable { IfOk result (λ stored. SinceFolds script.now.table
+        (by_place script.now.table.copies ((H.view shop.old).offers place.now))
+        (λ now. UnablesHadCause script.now.table limit now stored.epoch stored.ended.start
+        (past_of stored))) }
 
     // Where the sessions came to their end and each top has its own, each pair was folded that nothing barred from that.
     ensures folded { IfOk result (λ stored. IsOk stored.ended.ran → HasEnded (past_of stored)
-        → WereFolded H.D.view script.now.table limit
+        → SinceFolds script.now.table
         (by_place script.now.table.copies ((H.view shop.old).offers place.now))
+        (λ now. WereFolded H.D.view script.now.table limit now
         (by_place script.now.table.copies ((H.view shop.old).counts place.now)) stored.epoch
-        stored.ended.start (disks_of stored) (past_of stored)) }
+        stored.ended.start (disks_of stored) (past_of stored))) }
 
     // Where the shop tells the bytes of all disks, none of them has a fault, or the answer is the first.
     ensures sound { (images : List (List ℕ))

@@ -2,6 +2,7 @@
 ghost use Rattle.std.specs.Prelude.{ℕ, ◌≡◌, ◌<◌, ◌≤◌, ◌+◌, ◌^◌, ◌↔◌, List, [], length, vec_capacity, map, reverse, IfOk, IfErr, OnOk, IsOk, IsErrOf};
 ghost use Rattle.qc_codec.specs.Bodies as body;
 ghost use Rattle.qc_codec.specs.Fields.{current_format};
+ghost use Rattle.qc_disk.specs.Disk.{IsImage};
 ghost use Rattle.qc_event.specs.declared.short.Short.TheVariants.{Room};
 ghost use Rattle.qc_event.specs.Base.{IsProper as IsProperSetting};
 ghost use Rattle.qc_event.specs.History.{limit as most};
@@ -15,6 +16,7 @@ ghost use Rattle.qc_opening.specs.Images.{AreSound, IsFirstFault};
 ghost use Rattle.qc_opening.specs.Refusing.{disks_in, reason_in, AreLeft, IsReasonAmong, TellImages};
 ghost use Rattle.qc_opening.specs.Boxes.{unboxed};
 ghost use Rattle.qc_opening.specs.Parts.{counted_by, disks_held, IsStoreOver};
+ghost use Rattle.qc_opening.specs.SinceFolds.{SinceFolds};
 ghost use Rattle.qc_opening.specs.Stored.{HasRun};
 ghost use Rattle.qc_script.specs.Reading.{IsProper};
 ghost use Rattle.qc_script.specs.Steps.{plan_of_script};
@@ -80,6 +82,11 @@ pub(crate) fn known_now<D: Disk>()
         ↔ (D.view disk).may_leave c }
 {}
 
+// It makes the law known that what a disk tells is an image of it.
+fn known_told<D: Disk>()
+    ensures { (disk : D) → IsImage (D.view disk).content (D.view disk).may_leave }
+{}
+
 // It makes the range of an epoch known.
 fn known_range(epoch: u32)
     ensures { epoch < 2 ^ 32 }
@@ -103,12 +110,14 @@ fn run_mounted<R: Threads + Wait + Sync, D: Disk + Drop + Send, G: Gate + Sync>(
     requires store { IsStoreOver script.now.table (map (λ disk. (D.view disk).content) given)
         (map (λ disk. (D.view disk).faults) given) parts }
     requires all { length parts.copies.items ≡ script.now.table.copies }
-    ensures ran { IfOk result (HasRun D.view (plan_of_script script.now)
-        (limit_of (book.journal_of parts.ledger.book))
+    ensures ran { IfOk result (λ stored. SinceFolds script.now.table
         (told_by (map (λ disk. (D.view disk).content) given))
-        (counted_by (map (λ disk. (D.view disk).faults) given))) }
+        (λ now. HasRun D.view (plan_of_script script.now)
+        (limit_of (book.journal_of parts.ledger.book)) now
+        (counted_by (map (λ disk. (D.view disk).faults) given)) stored)) }
     ensures back { IfErr result (λ disks. disks.items ≡ unboxed (disks_held parts)) }
 {
+    known_told::<D>();
     are_bytes(parts.ledger.book.records());
     copies_are_of_bytes(parts.copies.as_slice());
     let epoch = parts.epoch;
@@ -148,9 +157,10 @@ pub(crate) fn run_disks<R: Threads + Wait + Sync, D: Disk + Drop + Send, G: Gate
     requires spelled { (body.table current_format).fits script.now.table }
     requires all { length disks.items ≡ all_places script.now.table.copies }
     requires given { disks.items ≡ given }
-    ensures ran { IfOk result (HasRun D.view (plan_of_script script.now) limit
+    ensures ran { IfOk result (λ stored. SinceFolds script.now.table
         (told_by (map (λ disk. (D.view disk).content) given))
-        (counted_by (map (λ disk. (D.view disk).faults) given))) }
+        (λ now. HasRun D.view (plan_of_script script.now) limit now
+        (counted_by (map (λ disk. (D.view disk).faults) given)) stored)) }
     ensures sound { (images : List (List ℕ)) → TellImages D.view disks.items images
         → OnOk result (AreSound script.now.table limit images) }
     ensures left { IfErr result (λ refused. AreLeft D.view script.now.table (reason_in refused)

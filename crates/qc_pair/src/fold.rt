@@ -29,7 +29,6 @@ fn write(
 ) -> Result<Body, Fault>
     requires counted { 0 < number }
     requires last { number ≤ 2 ^ 63 }
-    requires begun { 0 < epoch }
     requires few { copies ≤ 16 }
     requires fit { All (field.tuple (current copies)).fits tuples.items }
     ensures spelled { IfOk result (λ bytes. bytes.items ≡ (body.base (current copies)
@@ -57,7 +56,6 @@ pub struct Fold<D: Disk> {
     pub(crate) epoch: u32,
     pub(crate) copies: u8,
     ghost few: { copies ≤ 16 },
-    ghost begun: { 0 < epoch },
 }
 
 impl<D: Disk> Fold<D> {
@@ -77,7 +75,6 @@ impl<D: Disk> Fold<D> {
 
     // The body of the next base, with these tuples. Full comes where the last number was used up.
     fn base(&self, alloc: Global, epoch: u32, tuples: Vec<Tuple>) -> Result<Body, Fault>
-        requires begun { 0 < epoch }
         requires fit { All (field.tuple (current (copies_in self.now))).fits tuples.items }
         ensures base { IfOk result (λ base. base.items
             ≡ renewed_base self.now epoch tuples.items) }
@@ -123,7 +120,7 @@ impl<D: Disk> Fold<D> {
             (D.view (disk_of (other_in self.new))).faults (IsErrOf result Fault.Disk) }
     {
         let base = self.base(alloc, self.epoch, tuples)?;
-        fold(&mut self.other, &self.made, &base)
+        self.fold_base(&base)
     }
 
     // Drops what the journal has, and writes there how its disk was made and a base.
@@ -161,7 +158,6 @@ impl<D: Disk> Fold<D> {
         tuples: Vec<Tuple>,
     ) -> Result<(Journal<D>, Vec<Body>, Self), (Journal<D>, Self, Fault)>
         requires up { IsUp (other_in self) }
-        requires begun { 0 < epoch }
         requires fit { All (field.tuple (current (copies_in self))).fits tuples.items }
         ensures up { IfOk result (λ renewed. IsUp renewed.0) }
         ensures limit { IfOk result (λ renewed. limit_of renewed.0 ≡ limit_of (other_in self)) }

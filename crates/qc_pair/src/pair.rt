@@ -60,7 +60,6 @@ impl<D: Disk> Pair<D> {
     /// The active journal, and the other one with what a fold of this epoch writes there: the body that says how its
     /// disk was made, of a store of so many copies.
     pub fn into_fold(self, made: Body, epoch: u32, copies: u8) -> (Journal<D>, Fold<D>)
-        requires begun { 0 < epoch }
         requires few { copies ≤ 16 }
         ensures active { result.0 ≡ active_of self }
         ensures other { other_in result.1 ≡ other_of self }

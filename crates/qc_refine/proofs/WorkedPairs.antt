@@ -62,7 +62,7 @@ has bodies short = inr (length (records_row bodies), record { gate = 0; rest = [
 
 -- THEY ARE SHORT
 
-pub made_short : (disk : ℕ) → length (made disk) ≡ 21
+pub made_short : (disk : ℕ) → length (made disk) ≡ 22
 unfolding body.made body.making body.table body.row body.label config datum number_datum half long
 made_short disk = refl
 
@@ -74,7 +74,7 @@ ledger_base_short : length ((current_ledger_base table).spell (folded_to [])) �
 unfolding body.base body.folded long word
 ledger_base_short = refl
 
-copy_base_short : length ((current_copy_base table).spell (folded_to (first_tuple one_row ∷ []))) ≡ 43
+copy_base_short : length ((current_copy_base table).spell (folded_to (first_tuple one_row ∷ []))) ≡ 44
 unfolding body.base body.folded tuple config datum number_datum half long word
 copy_base_short = refl
 

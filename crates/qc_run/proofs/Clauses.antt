@@ -257,7 +257,7 @@ module _ {D H : Type 0} (view : D → DiskView) (shop_view : H → Shop) (words 
           begun : Runs run.0 run.1.0.asked → ⊥
           begun has =
               let proper = proper_one source_before.left source_now.left run.0 run.1.0.asked run.1.0.is_script in
-              omega (arith, ap length none, has.grown.mounted.mounted.as_many, proper.some_copy)
+              omega (arith, ap length none, has.grown.2.mounted.mounted.as_many, proper.some_copy)
 
   -- what is so of a session that was run, where this status is none that began nothing
   by_session : (why : Status) (P : Type 0) → Answers → ran.status ≡ why → (Audited → MayAudit why → P) → ((s : ScriptPlan) (asked : Asked) → Why s asked ran.disks.items why → ⊥) → (HadNoScript words source_before source_now why → ⊥)

@@ -19,6 +19,7 @@ use Rattle.qc_opening.specs.Pairs.{HaveNoGrantsInPairs}
 use Rattle.qc_opening.specs.Refusing.{disks_in, ComeBack}
 use Rattle.qc_opening.specs.declared.mount_no.MountNo.{MountNo}
 use Rattle.qc_opening.specs.declared.mount_no.MountNo.TheVariants as no
+use Rattle.qc_opening.specs.SinceFolds.{SinceFolds}
 use Rattle.qc_opening.specs.Stored.{AllTell, AreImages, HaveGrown, HavePaid, UnablesHadCause, WereFolded}
 use Rattle.qc_refine.specs.Pairs.{RestoreInPairs, StandInPairsWithin}
 use Rattle.qc_report.specs.Report.{Text}
@@ -104,11 +105,11 @@ module _ {D : Type 0} (view : D → DiskView) (s : ScriptPlan) (shop : Shop) (pl
     pub first : HaveNoGrantsInPairs s.table (by_place s.table.copies (shop.offers place)) → ran.start ≡ base_of s.table
     pub stands : AllTell s.table.copies (by_place s.table.copies (shop.offers place)) → (images : List (List ℕ)) → AreImages view ran.disks.items images
         → ∥ StandInPairsWithin 1 s.table ran.start epoch (reverse ran.trail) images ∥₁
-    pub grown : HaveGrown view s.table (by_place s.table.copies (shop.offers place)) epoch ran.start ran.disks.items (reverse ran.trail)
-    pub paid : HavePaid view s.table (by_place s.table.copies (shop.offers place)) (by_place s.table.copies (shop.counts place)) epoch ran.start ran.disks.items (reverse ran.trail)
-    pub unable : UnablesHadCause s.table journal_limit (by_place s.table.copies (shop.offers place)) epoch ran.start (reverse ran.trail)
+    pub grown : SinceFolds s.table (by_place s.table.copies (shop.offers place)) (λ now. HaveGrown view s.table now epoch ran.start ran.disks.items (reverse ran.trail))
+    pub paid : SinceFolds s.table (by_place s.table.copies (shop.offers place)) (λ now. HavePaid view s.table now (by_place s.table.copies (shop.counts place)) epoch ran.start ran.disks.items (reverse ran.trail))
+    pub unable : SinceFolds s.table (by_place s.table.copies (shop.offers place)) (λ now. UnablesHadCause s.table journal_limit now epoch ran.start (reverse ran.trail))
     pub folded : RanToEnd ran.status → HasEnded (reverse ran.trail)
-        → WereFolded view s.table journal_limit (by_place s.table.copies (shop.offers place)) (by_place s.table.copies (shop.counts place)) epoch ran.start ran.disks.items (reverse ran.trail)
+        → SinceFolds s.table (by_place s.table.copies (shop.offers place)) (λ now. WereFolded view s.table journal_limit now (by_place s.table.copies (shop.counts place)) epoch ran.start ran.disks.items (reverse ran.trail))
 
   -- why no store was mounted, where the shop's count of faults is this now
   abbrev pub IsUnmounted : ℕ → List D → Status → Type 0

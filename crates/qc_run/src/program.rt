@@ -9,6 +9,7 @@ ghost use Rattle.qc_io.specs.Io.{Rose, Keeps, Appends, AppendsFront, Drops, Lose
 ghost use Rattle.qc_opening.specs.Disks.{by_place, first_numbers};
 ghost use Rattle.qc_opening.specs.Images.{AreSound, IsFirstFault, Offers};
 ghost use Rattle.qc_opening.specs.Pairs.{HaveNoGrantsInPairs};
+ghost use Rattle.qc_opening.specs.SinceFolds.{SinceFolds};
 ghost use Rattle.qc_opening.specs.Stored.{AllTell, AreImages, HaveGrown, HavePaid, UnablesHadCause, WereFolded};
 ghost use Rattle.qc_refine.specs.Pairs.{RestoreInPairs, StandInPairsWithin};
 ghost use Rattle.qc_script.specs.Plan.{ScriptPlan};
@@ -176,20 +177,24 @@ where
         (by_place s.table.copies ((H.view shop.old).offers place))
         → (images : List (List ℕ)) → AreImages H.D.view result.disks.items images
         → ∥ StandInPairsWithin 1 s.table result.start epoch (reverse result.trail) images ∥₁)) }
-    // At each moment since the active disk of a pair was mounted, where it told its bytes, a crash left the records that it
-    // had then, and behind them those of the history up to some time, with at most one more, which could come next then. Of
-    // two such moments each image of the later had every record that all images of the earlier had. Before, a crash left of
-    // the disk what it left of it as it was when it had been mounted. The other disk of a pair kept what it had; or, where
-    // each top has its end, at each moment it had that, or none, or how it is made, or that and a base with the next number,
-    // the epoch, and what the copy holds in the end.
+
+    // A copy's pair of an older format was folded first, with what its active disk restored: what the disks tell
+    // since those folds is what the next clauses go by. At each moment since the active disk of a pair was mounted,
+    // where it told its bytes, a crash left the records that it had then, and behind them those of the history up to
+    // some time, with at most one more, which could come next then. Of two such moments each image of the later had
+    // every record that all images of the earlier had. Before, a crash left of the disk what it left of it as it was
+    // when it had been mounted. The other disk of a pair kept what it had; or, where each top has its end, at each
+    // moment it had that, or none, or how it is made, or that and a base with the next number, the epoch, and what
+    // the copy holds in the end.
     ensures images_grow { terms.OfRun (map string_bytes words.now) (S.view source.old).left
         (S.view source.new).left result
         (λ s. (epoch : ℕ)
         × terms.BeginsIn epoch s result.trail
         × line.AtPlace (map string_bytes words.now)
-        (λ place. HaveGrown H.D.view s.table
-        (by_place s.table.copies ((H.view shop.old).offers place)) epoch
-        result.start result.disks.items (reverse result.trail))) }
+        (λ place. SinceFolds s.table
+        (by_place s.table.copies ((H.view shop.old).offers place))
+        (λ now. HaveGrown H.D.view s.table now epoch result.start result.disks.items
+        (reverse result.trail)))) }
 
     // A run that ended with no top in doubt has folded each pair: so where each disk told its bytes and has not failed since
     // the shop gave it, the history is not full, no pair had the last number, and each base fits the longest journal. Then
@@ -201,10 +206,11 @@ where
         (λ s. (epoch : ℕ)
         × terms.BeginsIn epoch s result.trail
         × line.AtPlace (map string_bytes words.now)
-        (λ place. WereFolded H.D.view s.table terms.journal_limit
+        (λ place. SinceFolds s.table
         (by_place s.table.copies ((H.view shop.old).offers place))
+        (λ now. WereFolded H.D.view s.table terms.journal_limit now
         (by_place s.table.copies ((H.view shop.old).counts place)) epoch
-        result.start result.disks.items (reverse result.trail))) }
+        result.start result.disks.items (reverse result.trail)))) }
 
     // Each failure that someone was unable for, the active disk of a pair has counted since the shop gave it.
     ensures paid { terms.OfRun (map string_bytes words.now) (S.view source.old).left
@@ -212,10 +218,11 @@ where
         (λ s. (epoch : ℕ)
         × terms.BeginsIn epoch s result.trail
         × line.AtPlace (map string_bytes words.now)
-        (λ place. HavePaid H.D.view s.table
+        (λ place. SinceFolds s.table
         (by_place s.table.copies ((H.view shop.old).offers place))
+        (λ now. HavePaid H.D.view s.table now
         (by_place s.table.copies ((H.view shop.old).counts place)) epoch
-        result.start result.disks.items (reverse result.trail))) }
+        result.start result.disks.items (reverse result.trail)))) }
 
     // Where the ledger's active disk told its bytes: each top that the ledger was unable to log for want of room would with
     // its record, behind those of the mounting and of the tops that were committed until then, have passed the longest
@@ -226,9 +233,10 @@ where
         (λ s. (epoch : ℕ)
         × terms.BeginsIn epoch s result.trail
         × line.AtPlace (map string_bytes words.now)
-        (λ place. UnablesHadCause s.table terms.journal_limit
+        (λ place. SinceFolds s.table
         (by_place s.table.copies ((H.view shop.old).offers place))
-        epoch result.start (reverse result.trail))) }
+        (λ now. UnablesHadCause s.table terms.journal_limit now epoch result.start
+        (reverse result.trail)))) }
 
     // The disks that come back are all that the shop gave, in the order of their places: those of all pairs, and then their
     // spares. None was where there was no script, and the shop tells of all others as before. A mounting that was refused

@@ -4,6 +4,7 @@ use Rattle.std.specs.Prelude.{Bool, not, Option, Some, unwrap_or}
 use Rattle.std.specs.List.{All}
 use Rattle.std.specs.Option.{option_map}
 use Rattle.std.proofs.lemmas.List.Elements.{All-head}
+use Rattle.std.proofs.lemmas.Option.{IfSome_then}
 use Rattle.qc_codec.specs.Base.{format_in}
 use Rattle.qc_codec.specs.Bodies as body
 use Rattle.qc_codec.specs.Fields.{current_format}
@@ -16,13 +17,14 @@ use Rattle.qc_codec.specs.declared.image.ImageFault.TheVariants.{Broken, Grammar
 use Rattle.qc_codec.proofs.Bases.{format_behind}
 use Rattle.qc_codec.proofs.Bodies.{exact_made}
 use Rattle.qc_codec.proofs.Exact.{all_takes}
-use Rattle.qc_codec.proofs.Fits.{made_current}
 use Rattle.qc_disk.specs.Disk.{DiskView, LeavesOnly}
 use Rattle.qc_disk.specs.declared.disk.Disk.{Ghosts}
 use Rattle.qc_event.specs.declared.table.Table.{Table}
 use Rattle.qc_journal.proofs.Moments.{weakened}
 use Rattle.qc_ledger.specs.Pairs.{MountsHalf}
+use Rattle.qc_pair.specs.Fold.{swapped_in}
 use Rattle.qc_pair.specs.Folding.{HasNoRoom, IsFullFold}
+use Rattle.qc_pair.specs.Opening.{active_told}
 use Rattle.qc_pair.specs.declared.fold.Fold.{Fold}
 use Rattle.qc_pair.specs.declared.kind.Kind.TheVariants as kind
 use Rattle.qc_site.specs.Image.{to_write, AreBytes, AreMadeFor, AreMadeIn}
@@ -34,6 +36,11 @@ use Rattle.qc_site.proofs.OfBytes.{Bytes, are_bytes}
 
 -- IN THE CURRENT FORMAT
 
+-- bodies in the current format are of no older one
+pub not_older : (found : List (List ℕ)) → format_in found ≡ current_format → AreOlder found → ⊥
+not_older [] now older = older
+not_older (first ∷ rest) now (made, spells, other) = other (sym (ap (λ (b : List ℕ). format_in (b ∷ rest)) spells.0 ∙ format_behind made rest spells.1) ∙ now)
+
 module _ (copy : ℕ) (table : Table) (told spare_told : Option (List ℕ)) where
   -- what was found so is mounted
   pub found_now : {D : Type 0} {g : Ghosts D} (past : Past) (limit format : ℕ) (mounted : Mounted D g) (fold : Fold D g) → FindsCopyPair copy table past limit format told spare_told mounted fold → format ≡ current_format
@@ -42,6 +49,13 @@ module _ (copy : ℕ) (table : Table) (told spare_told : Option (List ℕ)) wher
     now = told;
     spare_now = spare_told;
     tells = inl (refl, refl);
+    was = record {
+      is_spare = swapped_in fold;
+      found = finds.mounts.found;
+      have = finds.opens.have;
+      fine = IfSome_then (active_told kind.Copy (copy + 1) told spare_told (swapped_in fold)) finds.mounts.fine
+          (λ bytes fine. record { mountable = fine.1; room = λ place full. not_older finds.mounts.found (finds.mounts.format_is ∙ is) full.0 });
+    };
     finds = subst (λ (n : ℕ). FindsCopyPair copy table past limit n told spare_told mounted fold) is finds;
   }
 
@@ -77,31 +91,10 @@ made_so disk table format [] made is = tt
 made_so disk table format (first ∷ rest) made is =
     subst (λ (n : ℕ). all_of body.made first ≡ Some (made_in n disk table)) (sym (ap (λ (o : Option Made). unwrap_or (option_map (λ (m : Made). m.format) o) current_format) made.1) ∙ is) made.1
 
--- bodies in the current format are of no older one
-pub not_older : (found : List (List ℕ)) → format_in found ≡ current_format → AreOlder found → ⊥
-not_older [] now older = older
-not_older (first ∷ rest) now (made, spells, other) = other (sym (ap (λ (b : List ℕ). format_in (b ∷ rest)) spells.0 ∙ format_behind made rest spells.1) ∙ now)
-
--- and there is none today
-pub never_older : (found : List (List ℕ)) → AreOlder found → ⊥
-never_older [] older = older
-never_older (first ∷ rest) (made, spells, other) = other (made_current made spells.1)
-
 -- nothing is written behind such
 pub older_records : (disk : ℕ) (table : Table) (found : List (List ℕ)) → AreOlder found → found ++ to_write disk table found ≡ found
 older_records disk table [] older = absurd older
 older_records disk table (first ∷ rest) older = append-nil (first ∷ rest)
-
--- so what was mounted told what it does now
-pub mounted_now : {D : Type 0} {g : Ghosts D} (copy : ℕ) (table : Table) (told spare_told : Option (List ℕ)) (past : Past) (limit : ℕ) (mounted : Mounted D g) (fold : Fold D g) → MountsCopyPair copy table past limit told spare_told mounted fold
-    → FindsCopyPair copy table past limit current_format told spare_told mounted fold
-mounted_now copy table told spare_told past limit mounted fold m = by m.tells
-  where
-    by : TellsNow copy table told spare_told past m.now m.spare_now → FindsCopyPair copy table past limit current_format told spare_told mounted fold
-    by (inl same) =
-        subst (λ (o : Option (List ℕ)). FindsCopyPair copy table past limit current_format o spare_told mounted fold) same.0
-        (subst (λ (o : Option (List ℕ)). FindsCopyPair copy table past limit current_format m.now o mounted fold) same.1 m.finds)
-    by (inr was) = absurd (never_older was.found was.pair.older)
 
 -- WHERE THERE IS NO ROOM
 

@@ -31,11 +31,11 @@ use Rattle.qc_site.proofs.RestoredFit.{Fit, restored_fit, restored_size}
 
 module _ (table : Table) (past : Past) (found : List (List ℕ)) where
   -- it fits, where there is a next number
-  pub renewed_fits : (disk : ℕ) → (body.table current_format).fits table → AreBytes found → AreMadeFor disk table found → 0 < past.epoch → past.epoch < 2 ^ 32 → number_in kind.Copy found < 2 ^ 63
+  pub renewed_fits : (disk : ℕ) → (body.table current_format).fits table → AreBytes found → AreMadeFor disk table found → past.epoch < 2 ^ 32 → number_in kind.Copy found < 2 ^ 63
       → (current_copy_base table).fits (renewed_base table past found)
-  renewed_fits disk proper bytes made begun small low =
+  renewed_fits disk proper bytes made small low =
       subst (λ (n : ℕ). (body.base (current table.copies) n).fits (renewed_base table past found)) (restored_size table past.tops found)
-      (base_fits (current table.copies) (renewed_base table past found) (omega arith) (omega (arith, low)) begun small (restored_fit table disk proper past.tops found bytes made))
+      (base_fits table.copies (renewed_base table past found) (omega arith) (omega (arith, low)) small (restored_fit table disk proper past.tops found bytes made))
 
   -- it is the next one of these tuples
   pub base_is : (copies number : ℕ) (tuples : List Tuple) → copies ≡ table.copies → number ≡ number_in kind.Copy found → tuples ≡ restored_in past.tops table found
@@ -67,8 +67,8 @@ module _ {D : Type 0} {g : Ghosts D} (table : Table) (past : Past) (mounted : Mo
         (subst (λ (n : ℕ). All (Fit n) (restored_in past.tops table found)) (sym may.copies_are)
         (restored_fit table (own_number table past mounted fold) proper past.tops found bytes may.granted.made))
 
-    pub may_fit : (body.table current_format).fits table → AreBytes found → 0 < past.epoch → past.epoch < 2 ^ 32 → active_number fold < 2 ^ 63 → (current_copy_base table).fits (renewed_base table past found)
-    may_fit proper bytes begun small low = renewed_fits table past found (own_number table past mounted fold) proper bytes may.granted.made begun small (omega (arith, low, may.number))
+    pub may_fit : (body.table current_format).fits table → AreBytes found → past.epoch < 2 ^ 32 → active_number fold < 2 ^ 63 → (current_copy_base table).fits (renewed_base table past found)
+    may_fit proper bytes small low = renewed_fits table past found (own_number table past mounted fold) proper bytes may.granted.made small (omega (arith, low, may.number))
 
     pub folds_base : (tuples : List Tuple) → tuples ≡ start_of mounted → next_base (copies_in fold) (active_number fold) past.epoch tuples ≡ renewed_body table past found
     folds_base tuples is = base_is table past found (copies_in fold) (active_number fold) tuples may.copies_are may.number (is ∙ may.start)

@@ -3,6 +3,7 @@ use Rattle.std.proofs.Common.{◌≡◌, ℕ, ◌+◌, ◌<◌, ◌≤◌, inl, 
 use Rattle.std.specs.List.{cons_option}
 use Rattle.std.specs.Prelude.{Bool, true, false, not, if◌then◌else◌, nat_lt, Option, None, Some, IfSome, IsSome, is_some, MatchOption}
 use Rattle.std.proofs.lemmas.Bool.{lt-ltb, ltb-true}
+use Rattle.std.proofs.lemmas.Option.{IfSome_then}
 use Rattle.qc_codec.specs.Base.{active, base_in, copy_base, current_copy_base, format_in, is_swapped, number_of_base, tuples_of_base}
 use Rattle.qc_codec.specs.Bodies as body
 use Rattle.qc_codec.specs.Copy.{MayStand, grant_in, granted_in}
@@ -24,11 +25,12 @@ use Rattle.qc_event.specs.declared.table.Table.{Table}
 use Rattle.qc_disk.specs.Disk.{IsImage, Steps}
 use Rattle.qc_disk.specs.declared.disk.Disk.{Ghosts}
 use Rattle.qc_journal.specs.Image.{HasRecords}
-use Rattle.qc_journal.specs.Journal.{disk_of, Keeps}
+use Rattle.qc_journal.specs.Journal.{disk_of, limit_of, Keeps}
 use Rattle.qc_journal.specs.declared.journal.Journal.{Journal}
 use Rattle.qc_ledger.proofs.Writing.{kept_has}
 use Rattle.qc_pair.specs.Fold.{other_in, swapped_in}
-use Rattle.qc_pair.specs.Opening.{HaveActive, TellWhich}
+use Rattle.qc_pair.specs.Folding.{HasNoRoom}
+use Rattle.qc_pair.specs.Opening.{active_told, HaveActive, TellWhich}
 use Rattle.qc_pair.proofs.Halves.{active_has}
 use Rattle.qc_pair.specs.Pair.{number_at}
 use Rattle.qc_pair.specs.declared.fold.Fold.{Fold}
@@ -319,8 +321,29 @@ module _ {D : Type 0} {g : Ghosts D} (copy : ℕ) (table : Table) (past : Past) 
         (active_by which (λ some. renews.keeps _ (finds.opens.keeps_other some)));
   }
 
-  pub renewed_mounts : MountsCopyPair copy table past limit told spare_told m' f'
-  renewed_mounts = record { now = now; spare_now = spare_now; tells = tells_now; finds = finds_next }
+  -- the disk that was folded into had room
+  room_by : limit_of (other_in f) ≡ limit → (place : ℕ) → HasNoRoom (number_in kind.Copy before) limit (made_body other table) (renewed_body table past before) place → ⊥
+  room_by limit_is =
+      subst (λ (c : ℕ). Room before limit (number_at (not which) (c + 1))) same_copy
+      (subst (λ (n : ℕ). Room before n (number_at (not which) (copy_of m + 1))) limit_is
+      (subst (λ (l : List (List ℕ)). Room l (limit_of (other_in f)) (number_at (not which) (copy_of m + 1))) records_found renews.room))
+    where
+      Room : List (List ℕ) → ℕ → ℕ → Type 0
+      Room l n disk = (place : ℕ) → HasNoRoom (number_in kind.Copy l) n (made_body disk table) (renewed_body table past l) place → ⊥
+
+  pub renewed_mounts : limit_of (other_in f) ≡ limit → MountsCopyPair copy table past limit told spare_told m' f'
+  renewed_mounts limit_is = record {
+    now = now;
+    spare_now = spare_now;
+    tells = tells_now;
+    was = record {
+      is_spare = which;
+      found = before;
+      have = finds.opens.have;
+      fine = IfSome_then (active_told kind.Copy (copy + 1) told spare_told which) finds.mounts.fine (λ bytes fine. record { mountable = fine.1; room = λ place full. room_by limit_is place full.1 });
+    };
+    finds = finds_next;
+  }
 
   -- and starts with what it restores
   pub renewed_start : start_of m ≡ restored_in past.tops table (records_of m) → start_of m' ≡ restored_in past.tops table (records_of m')

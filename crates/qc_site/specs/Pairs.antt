@@ -14,7 +14,7 @@ use Rattle.qc_pair.specs.declared.fold.Fold.{Fold}
 use Rattle.qc_pair.specs.declared.kind.Kind.TheVariants as kind
 use Rattle.qc_site.specs.Image.{AreMountableAsCopy, IsCopyFault}
 use Rattle.qc_site.specs.Mounted.{MountsCopy, journal_of, records_of}
-use Rattle.qc_site.specs.Renewal.{IsRenewalFault, TellsNow}
+use Rattle.qc_site.specs.Renewal.{IsRenewalFault, TellsNow, WasMountable}
 use Rattle.qc_site.specs.declared.fault.SiteNo.{SiteNo}
 use Rattle.qc_site.specs.declared.fault.SiteNo.TheVariants.{Disk, Image, Strange, Short}
 use Rattle.qc_site.specs.declared.mounted.Mounted.{Mounted}
@@ -49,6 +49,7 @@ pub record MountsCopyPair {D : Type 0} {g : Ghosts D} (copy : ℕ) (table : Tabl
   pub now : Option (List ℕ)
   pub spare_now : Option (List ℕ)
   pub tells : TellsNow copy table told spare_told past now spare_now
+  pub was : WasMountable table past limit copy told spare_told
   pub finds : FindsCopyPair copy table past limit current_format now spare_now mounted fold
 
 -- the active bodies of a pair do not fit the other disk, into which they are folded

@@ -21,7 +21,7 @@ use Rattle.qc_journal.specs.Image.{HasRecords}
 use Rattle.qc_ledger.specs.Pairs.{IsHalfLeft}
 use Rattle.qc_pair.specs.Folding.{HasNoRoom, IsFolding}
 use Rattle.qc_pair.specs.Front.{number_in}
-use Rattle.qc_pair.specs.Opening.{HaveActive}
+use Rattle.qc_pair.specs.Opening.{active_told, HaveActive}
 use Rattle.qc_pair.specs.Pair.{number_at}
 use Rattle.qc_pair.specs.declared.kind.Kind.TheVariants as kind
 use Rattle.qc_site.specs.Image.{made_body, to_write, AreMountableAsCopy}
@@ -110,3 +110,11 @@ module _ (table : Table) (past : Past) (limit : ℕ) where
   pub record AreMountableInPair (copy : ℕ) (is_spare : Bool) (found : List (List ℕ)) : Type 0 where
     pub mountable : AreMountableAsCopy (number_at is_spare (copy + 1)) table past limit found
     pub room : (place : ℕ) → HasNoRoomToRenew found (number_at (not is_spare) (copy + 1)) place → ⊥
+
+  -- Of a copy's pair that told this the spare, or the disk itself, was active. Where that told its bytes, they have no fault, and fit
+  -- the other disk.
+  pub record WasMountable (copy : ℕ) (told spare_told : Option (List ℕ)) : Type 0 where
+    pub is_spare : Bool
+    pub found : List (List ℕ)
+    pub have : HaveActive kind.Copy (copy + 1) told spare_told is_spare found
+    pub fine : IfSome (active_told kind.Copy (copy + 1) told spare_told is_spare) (λ bytes. AreMountableInPair copy is_spare found)

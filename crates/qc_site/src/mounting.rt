@@ -107,7 +107,6 @@ fn find_pair<D: Disk>(
 ) -> Result<(Mounted<D>, Fold<D>, u8), (D, D, PairNo)>
     requires copy { copy < table.now.copies }
     requires proper { (body.table current_format).fits table.now }
-    requires begun { 0 < epoch }
     ensures finds { IfOk result (λ found. FindsCopyPair copy table.now past.now limit found.2
         (D.view disk).content (D.view spare).content found.0 found.1) }
     ensures copy { IfOk result (λ found. (copy_of found.0 ≡ copy)
@@ -173,7 +172,6 @@ pub fn mount_pair<D: Disk>(
 ) -> Result<(Mounted<D>, Fold<D>), (D, D, PairNo)>
     requires copy { copy < table.now.copies }
     requires proper { (body.table current_format).fits table.now }
-    requires begun { 0 < epoch }
 
     // Records were found on the active disk, which are this copy's for this table, in order behind this past; or what they
     // became in the current format. Where it tells its bytes, each image has them from now on. The other keeps what it had.

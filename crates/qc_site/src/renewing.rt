@@ -60,7 +60,6 @@ pub(crate) fn renew<D: Disk>(
 ) -> Result<(Mounted<D>, Fold<D>), (D, D, PairNo)>
     requires copy { copy_of mounted < table.now.copies }
     requires proper { (body.table current_format).fits table.now }
-    requires begun { 0 < past.now.epoch }
     requires may { MayRenew table.now past.now mounted fold }
     ensures renews { IfOk result (λ renewed. Renews table.now past.now mounted fold renewed.0
         renewed.1) }

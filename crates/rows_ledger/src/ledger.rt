@@ -14,10 +14,10 @@ use rows_kit::{Step, bytes, made_of, said};
 use std::alloc::{AllocError, Global};
 
 /// How disk 0 was made, for a store of one copy and the record `x`, which starts with 0.
-const X0: &str = "010100010101780000000000000000010100010001";
+const X0: &str = "01020001010178000000000000000000010100010001";
 
 /// The same, where it starts with 1.
-const X1: &str = "010100010101780000000000000001010100010001";
+const X1: &str = "01020001010178000000000000000001010100010001";
 
 // How disk 0 was made, by the table that a step says.
 fn made(alloc: Global, step: &Step<'_>) -> Result<Option<Made>, AllocError>

@@ -57,7 +57,6 @@ fn renewed<D: Disk + Drop>(
 ) -> Result<(String, [D; 2]), AllocError>
     requires few { who ≤ 16 }
     requires up { IsUp (other_in fold) }
-    requires begun { 0 < wish.0 }
     requires fit { All (field.tuple (current (copies_in fold))).fits wish.1.items }
 {
     let made = vec![in alloc; 7]?;

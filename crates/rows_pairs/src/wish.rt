@@ -1,5 +1,5 @@
 //! What a step has a fold write.
-ghost use Rattle.std.specs.Prelude.{◌<◌, ◌≤◌, All, IfOk, IfSome};
+ghost use Rattle.std.specs.Prelude.{◌≤◌, All, IfOk, IfSome};
 ghost use Rattle.qc_codec.specs.Fields as field;
 ghost use Rattle.qc_codec.specs.Fields.{current};
 
@@ -16,7 +16,6 @@ pub(crate) struct Wish {
     pub(crate) epoch: u32,
     pub(crate) copies: u8,
     pub(crate) tuples: Vec<Tuple>,
-    ghost begun: { 0 < epoch },
     ghost few: { copies ≤ 16 },
 }
 
@@ -35,9 +34,11 @@ impl Wish {
             }));
         }
         let made = bytes(alloc, step.word(2))?;
-        let epoch = u32::try_from(step.number(3)).unwrap_or(0);
+        let Ok(epoch) = u32::try_from(step.number(3)) else {
+            return Ok(None);
+        };
         let copies = u8::try_from(step.number(4)).unwrap_or(u8::MAX);
-        if epoch == 0 || copies > 16 {
+        if copies > 16 {
             return Ok(None);
         }
         let tuples = match tuples(alloc, copies, step.words_from(5))? {

@@ -18,7 +18,7 @@ use rows_kit::{made_of, said};
 use std::alloc::{AllocError, Global};
 
 /// How the copy's disk was made: one copy, with the record `x`, which starts with 5, and `y`, which starts with 7.
-const MADE: &str = "01010101020178000000000000000501010001000101790000000000000007010100010001";
+const MADE: &str = "010201010201780000000000000000050101000100010179000000000000000007010100010001";
 
 /// What a ledger told of so many epochs, with these tops.
 pub(crate) fn past_of(alloc: Global, epoch: u32, logged: &[Logged]) -> Result<Past, AllocError> {

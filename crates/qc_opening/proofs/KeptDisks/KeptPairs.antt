@@ -6,6 +6,7 @@ pub mod PairsStand
 pub mod FoldCutOff
 pub mod CutOffPairs
 pub mod NextMounting
+pub mod RenewedImages
 mod WorkedPairs
 mod WorkedFolds
 pub mod NextBases

@@ -43,7 +43,7 @@ table = record { copies = 1; records = row ∷ [] }
 
 -- how the disk of a number was made
 abbrev made_bytes : ℕ → List ℕ
-made_bytes number = 1 ∷ 1 ∷ number ∷ 1 ∷ 1 ∷ 1 ∷ 97 ∷ 0 ∷ 0 ∷ 0 ∷ 0 ∷ 0 ∷ 0 ∷ 0 ∷ 0 ∷ 1 ∷ 1 ∷ 0 ∷ 1 ∷ 0 ∷ 1 ∷ []
+made_bytes number = 1 ∷ 2 ∷ number ∷ 1 ∷ 1 ∷ 1 ∷ 97 ∷ 0 ∷ 0 ∷ 0 ∷ 0 ∷ 0 ∷ 0 ∷ 0 ∷ 0 ∷ 0 ∷ 1 ∷ 1 ∷ 0 ∷ 1 ∷ 0 ∷ 1 ∷ []
 
 ledger_made : tops.made_body 0 table ≡ made_bytes 0
 unfolding body.ledger body.making body.table body.row body.label config datum number_datum half long

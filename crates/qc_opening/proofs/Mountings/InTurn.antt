@@ -7,9 +7,7 @@ use Rattle.qc_codec.specs.declared.image.BadImage.{BadImage}
 use Rattle.qc_codec.specs.declared.past.Past.{Past}
 use Rattle.qc_disk.specs.declared.disk.Disk.{Ghosts}
 use Rattle.qc_event.specs.declared.table.Table.{Table}
-use Rattle.qc_journal.specs.Image.{HasRecords}
 use Rattle.qc_site.specs.Renewal.{AreMountableInPair}
-use Rattle.qc_site.proofs.PairRenewals.{not_older}
 use Rattle.qc_site.specs.Pairs.{IsCopyPairNo}
 use Rattle.qc_opening.specs.Disks.{IsPairLeft}
 use Rattle.qc_opening.specs.Images.{IsCopiesFault, IsSoundCopy}
@@ -21,7 +19,6 @@ use Rattle.qc_opening.proofs.Mountings.Disks.{mounted_for, unreached_pairs}
 use Rattle.qc_opening.proofs.Mountings.Numbered.{pairs_append, pairs_length, pairs_mapped, pairs_more, pairs_shifted}
 use Rattle.qc_opening.proofs.Mountings.Reasons.{among_of, no_of_copy, not_behind, not_failed, IsNoOfPair}
 use Rattle.qc_opening.proofs.Mountings.Sound.{sound_pair, told_fine}
-use Rattle.qc_pair.specs.Fold.{swapped_in}
 use Rattle.qc_pair.specs.declared.fault.PairNo.{PairNo}
 use Rattle.qc_pair.specs.declared.fault.PairNo.TheVariants.{Image}
 use Rattle.qc_pair.specs.declared.kind.Kind.TheVariants as kind
@@ -34,12 +31,9 @@ module _ {D : Type 0} {g : Ghosts D} (table : Table) (past : Past) (epoch limit 
   sound_copy : (number : ℕ) (disks : D × D) (pair : CopyPair D g) (images : List ℕ × List ℕ) → IsCopy table past epoch limit number disks pair → (g.view disks.0).content ≡ Some images.0 → (g.view disks.1).content ≡ Some images.1
       → IsSoundCopy table limit past number images
   sound_copy number disks pair images is tells spare_tells =
-      let found = is.mounts.mounts.found in
-      sound_pair kind.Copy (number + 1) (g.view disks.0).content (g.view disks.1).content images.0 images.1 tells spare_tells (swapped_in pair.fold) found (AreMountableInPair table past limit number)
-      is.mounts.opens.have (record {
-        mountable = told_fine kind.Copy (number + 1) (g.view disks.0).content (g.view disks.1).content images.0 images.1 tells spare_tells (swapped_in pair.fold) (HasRecords found) _ is.mounts.mounts.fine;
-        room = λ place full. not_older found is.mounts.mounts.format_is full.0;
-      })
+      let was = is.mounts.was in
+      sound_pair kind.Copy (number + 1) (g.view disks.0).content (g.view disks.1).content images.0 images.1 tells spare_tells was.is_spare was.found (AreMountableInPair table past limit number) was.have
+      (told_fine kind.Copy (number + 1) (g.view disks.0).content (g.view disks.1).content images.0 images.1 tells spare_tells was.is_spare (λ bytes. AreMountableInPair table past limit number was.is_spare was.found) was.fine)
 
   pub sound_copies : (number : ℕ) (pairs : List (D × D)) (mounted : List (CopyPair D g)) (images : List (List ℕ × List ℕ)) → PairsFrom (IsCopy table past epoch limit) number pairs mounted → TellInPairs g.view pairs images
       → EachFrom (IsSoundCopy table limit past) number images

@@ -1,6 +1,6 @@
 -- Pairs that were mounted have no fault.
 use Rattle.std.proofs.Common.{◌≡◌, ℕ, ◌+◌, List, subst, sym, add-one}
-use Rattle.std.specs.Prelude.{Bool, true, false, Option, Some, IfSome}
+use Rattle.std.specs.Prelude.{Bool, true, false, if◌then◌else◌, Option, Some, IfSome}
 use Rattle.qc_codec.specs.declared.past.Past.{Past}
 use Rattle.qc_disk.specs.Disk.{DiskView}
 use Rattle.qc_event.specs.declared.table.Table.{Table}
@@ -12,9 +12,9 @@ use Rattle.qc_pair.specs.declared.kind.Kind.{Kind}
 
 module _ (kind : Kind) (pair : ℕ) (told spare_told : Option (List ℕ)) (own spare : List ℕ) (tells : told ≡ Some own) (spare_tells : spare_told ≡ Some spare) where
   -- what holds where the active disk tells its bytes
-  pub told_fine : (is_spare : Bool) (P : List ℕ → Type 0) (Q : Type 0) → IfSome (active_told kind pair told spare_told is_spare) (λ bytes. P bytes × Q) → Q
-  told_fine true P Q fine = (subst (λ o. IfSome o (λ bytes. P bytes × Q)) spare_tells fine).1
-  told_fine false P Q fine = (subst (λ o. IfSome o (λ bytes. P bytes × Q)) tells fine).1
+  pub told_fine : (is_spare : Bool) (P : List ℕ → Type 0) → IfSome (active_told kind pair told spare_told is_spare) P → P (if is_spare then spare else own)
+  told_fine true P fine = subst (λ o. IfSome o P) spare_tells fine
+  told_fine false P fine = subst (λ o. IfSome o P) tells fine
 
   -- what a pair told has no fault
   pub sound_pair : (is_spare : Bool) (found : List (List ℕ)) (Fine : Bool → List (List ℕ) → Type 0) → HaveActive kind pair told spare_told is_spare found → Fine is_spare found → IsSoundPair kind pair Fine (own, spare)

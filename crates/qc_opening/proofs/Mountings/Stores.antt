@@ -60,9 +60,9 @@ module _ {D : Type 0} {g : Ghosts D} (table : Table) (limit : ℕ) where
       let found = is.mounts.mounts.found in
       let told = (g.view disks.0).content in
       let spare_told = (g.view disks.1).content in
-      let fine = told_fine kind.Ledger 0 told spare_told images.0 images.1 tells spare_tells (swapped_in ledger.fold) (HasRecords found) _ is.mounts.mounts.fine in
+      let fine = told_fine kind.Ledger 0 told spare_told images.0 images.1 tells spare_tells (swapped_in ledger.fold) _ is.mounts.mounts.fine in
       sound_pair kind.Ledger 0 told spare_told images.0 images.1 tells spare_tells (swapped_in ledger.fold) found (λ is_spare bodies. AreMountableAsLedger (number_at is_spare 0) table limit bodies × Behind (past_in bodies))
-      is.mounts.opens.have (fine, subst Behind is.mounts.mounts.past_is behind)
+      is.mounts.opens.have (fine.1, subst Behind is.mounts.mounts.past_is behind)
 
   module _ (reason : PairNo) (old new : List (D × D)) (few : length old ≤ 17)
       (back : GoesBack (λ before after. IsPairLeft g.view table (FirstTells g.view old) (FailedAt reason) (IsBehind reason) 0 before after × IsLedgerPairNo table limit (g.view before.0).content (g.view before.1).content reason) old new) where

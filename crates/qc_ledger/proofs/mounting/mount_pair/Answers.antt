@@ -18,8 +18,8 @@ use Rattle.qc_pair.specs.declared.kind.Kind.TheVariants as kind
 use Rattle.qc_pair.proofs.Halves.{active_keeps}
 use Rattle.qc_ledger.proofs.mounting.mount_pair.Goals as goal
 
-pub into_fold-journal-requires-clause-few : goal.into_fold-journal-requires-clause-few
-into_fold-journal-requires-clause-few g c = (table_sized current_format c.args.table.now c.requires.proper).copies
+pub into_fold-journal-requires : goal.into_fold-journal-requires
+into_fold-journal-requires g c = record { few = (table_sized current_format c.args.table.now c.requires.proper).copies }
 
 pub returns-in-Ok-begin-clause-mounts : goal.returns-in-Ok-begin-clause-mounts
 returns-in-Ok-begin-clause-mounts g c =

@@ -140,13 +140,13 @@ module _ {D : Type 0} (view : D → Disk) (table : Table) (told : ℕ → Option
 
     ledger_folded : HasFolded 0 → IsLedgerFolded m past images
     ledger_folded f =
-        folded_so kind.Ledger table m.mounted.ledger.found epoch [] (made_other table m.swapped 0) (other 0) (omega (arith, m.mounted.ledger.next)) m.mounted.small refl
+        folded_so kind.Ledger table m.mounted.ledger.found epoch [] (made_other table m.swapped 0) (other 0) m.mounted.small refl
         (length base) (numbers 0) [] many numbers_are.ledger refl f.0 f.1 f.2
 
     copy_folded : (copy : ℕ) (there : copy < table.copies) → HasFolded (copy + 1) → IsCopyFolded m past images copy there
     copy_folded copy there f =
         let next : copy + 1 ≡ suc copy = omega arith in
-        folded_so kind.Copy table (m.mounted.copies copy there).found epoch (seen_row setting past copy) (made_other table m.swapped (copy + 1)) (other (copy + 1)) (omega (arith, m.mounted.ledger.next)) m.mounted.small
+        folded_so kind.Copy table (m.mounted.copies copy there).found epoch (seen_row setting past copy) (made_other table m.swapped (copy + 1)) (other (copy + 1)) m.mounted.small
         (base_of_copy table base past copy) (length base) (numbers (copy + 1)) (held_at setting (copy + 1) past) many (numbers_are.copies copy there) (ap (λ n. held_at setting n past) next) f.0 f.1 f.2
 
     -- where each pair was folded

@@ -28,14 +28,14 @@ base_of_copy table base past copy =
     ap (body.base (current table.copies))
     (length-map-range_with_len (seen base past copy) 0 (length (first_configs table)) ∙ length-map table.records (λ (r : Row). r.config))
 
-module _ (form : Kind) (table : Table) (found : List (List ℕ)) (epoch : ℕ) (tuples : List Tuple) (made image : List ℕ) (begun : 0 < epoch) (small : epoch < 2 ^ 32) (of_form : body.base (current table.copies) (length tuples) ≡ current_base form table) where
+module _ (form : Kind) (table : Table) (found : List (List ℕ)) (epoch : ℕ) (tuples : List Tuple) (made image : List ℕ) (small : epoch < 2 ^ 32) (of_form : body.base (current table.copies) (length tuples) ≡ current_base form table) where
   pub folded_so : (copies number : ℕ) (held : List Tuple) → copies ≡ table.copies → number ≡ number_in form found → held ≡ tuples → number < 2 ^ 63 → All (tuple (current copies)).fits held → HasRecords (made ∷ folding.next_base copies number epoch held ∷ []) image
       → IsFolded form table found epoch tuples made image
   folded_so copies number held of_copies of_number of_held low fit has =
       let fit_so : All (tuple (current table.copies)).fits tuples = subst (All (tuple (current table.copies)).fits) of_held (subst (λ n. All (tuple (current n)).fits held) of_copies fit) in
       record {
         fits = subst (λ (f : Form BaseRecord). f.fits (next_base form found epoch tuples)) of_form
-            (base_fits (current table.copies) (next_base form found epoch tuples) (omega arith) (omega (arith, low, of_number)) begun small fit_so);
+            (base_fits table.copies (next_base form found epoch tuples) (omega arith) (omega (arith, low, of_number)) small fit_so);
         has = subst (λ (f : Form BaseRecord). HasRecords (made ∷ f.spell (next_base form found epoch tuples) ∷ []) image) of_form
             (subst (λ (held : List Tuple). HasRecords (made ∷ folding.next_base table.copies (number_in form found) epoch held ∷ []) image) of_held
             (subst (λ n. HasRecords (made ∷ folding.next_base table.copies n epoch held ∷ []) image) of_number

@@ -19,9 +19,8 @@ use Rattle.qc_opening.proofs.KeptDisks.KeptPairs.CutOffPairs.{left_many, left_re
 use Rattle.qc_opening.proofs.KeptDisks.Restarts as disks
 use Rattle.qc_pair.specs.Pair.{number_at}
 use Rattle.qc_pair.specs.declared.kind.Kind.TheVariants as kind
-use Rattle.qc_refine.specs.Images.{CarryFinal, IsCopyImage}
+use Rattle.qc_refine.specs.Images.{IsCopyImage}
 use Rattle.qc_refine.specs.Pairs.{RestoreInPairs, StandInPairs, image_of, spare_image}
-use Rattle.qc_refine.specs.Standing.{committed_too}
 use Rattle.qc_refine.proofs.Restoring.Actives.{AreActive}
 use Rattle.qc_refine.proofs.Restoring.ActiveImages.{active_restore}
 use Rattle.qc_refine.proofs.Restoring.PairImages.{pairs_carry_final, pairs_restore_one, pairs_restore_some}
@@ -77,8 +76,21 @@ module _ (table : Table) (images : List (List ℕ)) (records : ℕ → List (Lis
       (mounted_as (active_number m.swapped) table (of_active table m.swapped (λ place. Some (get_or images place []))) (λ pair. Some (get_or actives pair [])) records epoch base told_is m.mounted)
       (active_many table m.swapped images))
 
--- the next mounting that is not cut off carries the serial machine's values after the history, and after tops whose commits may
+-- what images restore that stand beside a history carries the serial machine's values after it, and after tops whose commits may
 -- come next
+standing_carry : (table : Table) (base : List (List Tuple)) (epoch : ℕ) (past : Past) (images : List (List ℕ)) (values : List Datum) (tuples : List (List Tuple))
+    → StandInPairs table base epoch past images → Legal (setting_of table base) past → IsSound (setting_of table base) values → RestoreInPairs table images tuples → CarryNext table values past tuples
+standing_carry table base epoch past images values tuples s legal sound restored =
+    record { more = s.beside.more; next = s.beside.next; carry = pairs_carry_final table images base epoch past s tuples restored values legal sound }
+
+-- so does what other images restore that restore the same
+pub alike_carry : (table : Table) (base : List (List Tuple)) (epoch : ℕ) (past : Past) (standing images : List (List ℕ)) (values : List Datum) (tuples start : List (List Tuple))
+    → StandInPairs table base epoch past standing → Legal (setting_of table base) past → IsSound (setting_of table base) values → RestoreInPairs table standing tuples → RestoreInPairs table images tuples → RestoreInPairs table images start
+    → CarryNext table values past start
+alike_carry table base epoch past standing images values tuples start s legal sound restored same now =
+    subst (CarryNext table values past) (pairs_restore_one table images tuples start same now) (standing_carry table base epoch past standing values tuples s legal sound restored)
+
+-- the next mounting that is not cut off starts with such tuples
 pub restart : (table : Table) (base : List (List Tuple)) (epoch : ℕ) (past : Past) (images last : List (List ℕ)) (later : List (List (List ℕ))) (values : List Datum) (records : ℕ → List (List ℕ)) (later_epoch : ℕ) (later_base : List (List Tuple))
     → StandInPairs table base epoch past images → Legal (setting_of table base) past → IsSound (setting_of table base) values → AreLeftInPairs table images later last
     → MountedInPairs table (λ place. Some (get_or last place [])) records later_epoch later_base → CarryNext table values past later_base
@@ -86,11 +98,7 @@ restart table base epoch past images last later values records later_epoch later
     let (tuples, restored) = pairs_restore_some table images base epoch past s in
     let same : tuples ≡ later_base = pairs_restore_one table last tuples later_base (left_restored table images last later left tuples restored)
     (restores table last records later_epoch later_base mounted (left_many table images last later s.as_many left)) in
-    record {
-      more = s.beside.more;
-      next = s.beside.next;
-      carry = subst (CarryFinal table values (committed_too past s.beside.more)) same (pairs_carry_final table images base epoch past s tuples restored values legal sound);
-    }
+    subst (CarryNext table values past) same (standing_carry table base epoch past images values tuples s legal sound restored)
 
 -- THE FIRST MOUNTING
 

@@ -38,7 +38,7 @@ ledger_short : length ((current_base kind.Ledger table).spell (next_base kind.Le
 unfolding body.base body.folded long word
 ledger_short = refl
 
-copy_short : length ((current_base kind.Copy table).spell (next_base kind.Copy [] 1 held)) ≡ 43
+copy_short : length ((current_base kind.Copy table).spell (next_base kind.Copy [] 1 held)) ≡ 44
 unfolding body.base body.folded tuple config datum number_datum half long word
 copy_short = refl
 

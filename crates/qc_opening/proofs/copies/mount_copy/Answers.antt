@@ -1,6 +1,5 @@
 -- What the mounting of a copy says of the next pair.
 use Rattle.std.proofs.Common.{◌≡◌, ◌+◌, ap, arith, length}
-use Rattle.qc_site.proofs.PairRenewals.{mounted_now}
 use Rattle.qc_codec.specs.declared.past.Past.{Past}
 use Rattle.qc_opening.specs.Waiting.{waiting_in}
 use Rattle.qc_opening.proofs.Mountings.Disks.{mounted_for}
@@ -26,7 +25,7 @@ returns-in-Ok-clause-mounted g c =
       first = before;
       old_is = c.take-disk.ensures.pairs;
       has = record {
-        mounts = mounted_now c.args.copy c.args.table.now own spare c.args.past.now c.args.limit c.in-Ok.copy c.in-Ok.fold told.mounts;
+        mounts = told.mounts;
         number_is = told.copy.0;
         copies = told.copy.1;
         limit_is = told.limit;

@@ -16,9 +16,11 @@ use Rattle.qc_script.specs.Reading.{IsProper}
 use Rattle.qc_script.specs.Steps.{plan_of_script}
 use Rattle.qc_opening.specs.Disks.{by_place, first_numbers, told_by}
 use Rattle.qc_opening.specs.Parts.{counted_by}
+use Rattle.qc_opening.specs.SinceFolds.{SinceFolds}
 use Rattle.qc_opening.specs.Stored.{disks_of, past_of, AreImages, HasKept, HasRun, HaveGrown, HavePaid, UnablesHadCause, WereFolded}
 use Rattle.qc_opening.proofs.Grown.{had_cause, have_grown}
 use Rattle.qc_opening.proofs.Told.{all_returned, counted_at, error_returned, first, folded, kept, paid, restored, stands, tell_offered}
+use Rattle.qc_opening.proofs.ShownNow.{shown_as_much, shown_now, shown_since}
 use Rattle.qc_opening.proofs.opening.run_stored.Goals as goal
 
 pub returns-in_err-disks-clause-disks : goal.returns-in_err-disks-clause-disks
@@ -45,8 +47,8 @@ returns-clause-restores g c = λ images offered.
     let told = told_by (map (λ d. (view d).content) disks) in
     let counts = counted_by (map (λ d. (view d).faults) disks) in
     let tells = tell_offered view plan.table offers disks c.in_ok-disks.ensures.offered c.in_ok-disks.ensures.all in
-    if_ok c.run_disks.result (HasRun view plan c.args.limit told counts) (λ stored. RestoreInPairs plan.table images stored.ended.start) c.run_disks.ensures.ran
-    (λ stored run. restored view plan c.args.limit told counts stored run ((g.H.Shop.view c.args.shop.now).offers c.args.place.now) tells images offered)
+    if_ok c.run_disks.result (λ stored. SinceFolds plan.table told (λ now. HasRun view plan c.args.limit now counts stored)) (λ stored. RestoreInPairs plan.table images stored.ended.start) c.run_disks.ensures.ran
+    (λ stored since. restored view plan c.args.limit told counts stored since ((g.H.Shop.view c.args.shop.now).offers c.args.place.now) tells images offered)
 
 pub returns-clause-first : goal.returns-clause-first
 returns-clause-first g c = λ none.
@@ -57,8 +59,8 @@ returns-clause-first g c = λ none.
     let told = told_by (map (λ d. (view d).content) disks) in
     let counts = counted_by (map (λ d. (view d).faults) disks) in
     let tells = tell_offered view plan.table offers disks c.in_ok-disks.ensures.offered c.in_ok-disks.ensures.all in
-    if_ok c.run_disks.result (HasRun view plan c.args.limit told counts) (λ stored. stored.ended.start ≡ base_of plan.table) c.run_disks.ensures.ran
-    (λ stored run. first view plan c.args.limit told counts stored run offers tells none)
+    if_ok c.run_disks.result (λ stored. SinceFolds plan.table told (λ now. HasRun view plan c.args.limit now counts stored)) (λ stored. stored.ended.start ≡ base_of plan.table) c.run_disks.ensures.ran
+    (λ stored since. first view plan c.args.limit told counts stored since offers tells none)
 
 pub returns-clause-kept : goal.returns-clause-kept
 returns-clause-kept g c =
@@ -69,8 +71,8 @@ returns-clause-kept g c =
     let told = told_by (map (λ d. (view d).content) disks) in
     let counts = counted_by (map (λ d. (view d).faults) disks) in
     let tells = tell_offered view plan.table offers disks c.in_ok-disks.ensures.offered c.in_ok-disks.ensures.all in
-    if_ok c.run_disks.result (HasRun view plan c.args.limit told counts) (HasKept view plan.table c.args.limit offers) c.run_disks.ensures.ran
-    (λ stored run. kept view plan c.args.limit told counts stored run offers tells)
+    if_ok c.run_disks.result (λ stored. SinceFolds plan.table told (λ now. HasRun view plan c.args.limit now counts stored)) (λ stored. SinceFolds plan.table offers (λ now. HasKept view plan.table c.args.limit now stored)) c.run_disks.ensures.ran
+    (λ stored since. shown_since plan.table told offers tells (λ now. HasRun view plan c.args.limit now counts stored) (λ now. HasKept view plan.table c.args.limit now stored) (λ now run. kept view plan c.args.limit now counts stored run (shown_now offers now) (shown_as_much plan.table offers now)) since)
 
 pub returns-clause-stands : goal.returns-clause-stands
 returns-clause-stands g c = λ all_tell.
@@ -81,8 +83,8 @@ returns-clause-stands g c = λ all_tell.
     let told = told_by (map (λ d. (view d).content) disks) in
     let counts = counted_by (map (λ d. (view d).faults) disks) in
     let tells = tell_offered view plan.table offers disks c.in_ok-disks.ensures.offered c.in_ok-disks.ensures.all in
-    if_ok c.run_disks.result (HasRun view plan c.args.limit told counts) (λ stored. (images : List (List ℕ)) → AreImages view (disks_of stored) images → ∥ StandInPairsWithin 1 plan.table stored.ended.start stored.epoch (past_of stored) images ∥₁) c.run_disks.ensures.ran
-    (λ stored run. stands view plan c.args.limit told counts stored run offers tells c.known_now.ensures all_tell)
+    if_ok c.run_disks.result (λ stored. SinceFolds plan.table told (λ now. HasRun view plan c.args.limit now counts stored)) (λ stored. (images : List (List ℕ)) → AreImages view (disks_of stored) images → ∥ StandInPairsWithin 1 plan.table stored.ended.start stored.epoch (past_of stored) images ∥₁) c.run_disks.ensures.ran
+    (λ stored since. stands view plan c.args.limit told counts stored since offers tells c.known_now.ensures all_tell)
 
 pub returns-clause-grown : goal.returns-clause-grown
 returns-clause-grown g c =
@@ -93,8 +95,8 @@ returns-clause-grown g c =
     let told = told_by (map (λ d. (view d).content) disks) in
     let counts = counted_by (map (λ d. (view d).faults) disks) in
     let tells = tell_offered view plan.table offers disks c.in_ok-disks.ensures.offered c.in_ok-disks.ensures.all in
-    if_ok c.run_disks.result (HasRun view plan c.args.limit told counts) (λ stored. HaveGrown view plan.table offers stored.epoch stored.ended.start (disks_of stored) (past_of stored)) c.run_disks.ensures.ran
-    (λ stored run. have_grown view plan.table c.args.limit offers stored (kept view plan c.args.limit told counts stored run offers tells))
+    if_ok c.run_disks.result (λ stored. SinceFolds plan.table told (λ now. HasRun view plan c.args.limit now counts stored)) (λ stored. SinceFolds plan.table offers (λ now. HaveGrown view plan.table now stored.epoch stored.ended.start (disks_of stored) (past_of stored))) c.run_disks.ensures.ran
+    (λ stored since. shown_since plan.table told offers tells (λ now. HasRun view plan c.args.limit now counts stored) (λ now. HaveGrown view plan.table now stored.epoch stored.ended.start (disks_of stored) (past_of stored)) (λ now run. have_grown view plan.table c.args.limit (shown_now offers now) stored (kept view plan c.args.limit now counts stored run (shown_now offers now) (shown_as_much plan.table offers now))) since)
 
 pub returns-clause-unable : goal.returns-clause-unable
 returns-clause-unable g c =
@@ -105,8 +107,8 @@ returns-clause-unable g c =
     let told = told_by (map (λ d. (view d).content) disks) in
     let counts = counted_by (map (λ d. (view d).faults) disks) in
     let tells = tell_offered view plan.table offers disks c.in_ok-disks.ensures.offered c.in_ok-disks.ensures.all in
-    if_ok c.run_disks.result (HasRun view plan c.args.limit told counts) (λ stored. UnablesHadCause plan.table c.args.limit offers stored.epoch stored.ended.start (past_of stored)) c.run_disks.ensures.ran
-    (λ stored run. had_cause view plan.table c.args.limit offers stored (kept view plan c.args.limit told counts stored run offers tells))
+    if_ok c.run_disks.result (λ stored. SinceFolds plan.table told (λ now. HasRun view plan c.args.limit now counts stored)) (λ stored. SinceFolds plan.table offers (λ now. UnablesHadCause plan.table c.args.limit now stored.epoch stored.ended.start (past_of stored))) c.run_disks.ensures.ran
+    (λ stored since. shown_since plan.table told offers tells (λ now. HasRun view plan c.args.limit now counts stored) (λ now. UnablesHadCause plan.table c.args.limit now stored.epoch stored.ended.start (past_of stored)) (λ now run. had_cause view plan.table c.args.limit (shown_now offers now) stored (kept view plan c.args.limit now counts stored run (shown_now offers now) (shown_as_much plan.table offers now))) since)
 
 pub returns-clause-paid : goal.returns-clause-paid
 returns-clause-paid g c =
@@ -118,8 +120,8 @@ returns-clause-paid g c =
     let told = told_by (map (λ d. (view d).content) disks) in
     let counts = counted_by (map (λ d. (view d).faults) disks) in
     let tells = tell_offered view plan.table offers disks c.in_ok-disks.ensures.offered c.in_ok-disks.ensures.all in
-    if_ok c.run_disks.result (HasRun view plan c.args.limit told counts) (λ stored. HavePaid view plan.table offers shop stored.epoch stored.ended.start (disks_of stored) (past_of stored)) c.run_disks.ensures.ran
-    (λ stored run. paid view plan c.args.limit told counts stored run offers tells shop (counted_at view plan.table shop disks c.in_ok-disks.ensures.counted c.in_ok-disks.ensures.all))
+    if_ok c.run_disks.result (λ stored. SinceFolds plan.table told (λ now. HasRun view plan c.args.limit now counts stored)) (λ stored. SinceFolds plan.table offers (λ now. HavePaid view plan.table now shop stored.epoch stored.ended.start (disks_of stored) (past_of stored))) c.run_disks.ensures.ran
+    (λ stored since. shown_since plan.table told offers tells (λ now. HasRun view plan c.args.limit now counts stored) (λ now. HavePaid view plan.table now shop stored.epoch stored.ended.start (disks_of stored) (past_of stored)) (λ now run. paid view plan c.args.limit now counts stored run (shown_now offers now) (shown_as_much plan.table offers now) shop (counted_at view plan.table shop disks c.in_ok-disks.ensures.counted c.in_ok-disks.ensures.all)) since)
 
 pub returns-clause-folded : goal.returns-clause-folded
 returns-clause-folded g c =
@@ -131,9 +133,8 @@ returns-clause-folded g c =
     let told = told_by (map (λ d. (view d).content) disks) in
     let counts = counted_by (map (λ d. (view d).faults) disks) in
     let tells = tell_offered view plan.table offers disks c.in_ok-disks.ensures.offered c.in_ok-disks.ensures.all in
-    if_ok c.run_disks.result (HasRun view plan c.args.limit told counts)
-    (λ stored. IsOk stored.ended.ran → HasEnded (past_of stored) → WereFolded view plan.table c.args.limit offers shop stored.epoch stored.ended.start (disks_of stored) (past_of stored)) c.run_disks.ensures.ran
-    (λ stored run. folded view plan c.args.limit told counts stored run offers tells shop (counted_at view plan.table shop disks c.in_ok-disks.ensures.counted c.in_ok-disks.ensures.all))
+    if_ok c.run_disks.result (λ stored. SinceFolds plan.table told (λ now. HasRun view plan c.args.limit now counts stored)) (λ stored. IsOk stored.ended.ran → HasEnded (past_of stored) → SinceFolds plan.table offers (λ now. WereFolded view plan.table c.args.limit now shop stored.epoch stored.ended.start (disks_of stored) (past_of stored))) c.run_disks.ensures.ran
+    (λ stored since done ended. shown_since plan.table told offers tells (λ now. HasRun view plan c.args.limit now counts stored) (λ now. WereFolded view plan.table c.args.limit now shop stored.epoch stored.ended.start (disks_of stored) (past_of stored)) (λ now run. folded view plan c.args.limit now counts stored run (shown_now offers now) (shown_as_much plan.table offers now) shop (counted_at view plan.table shop disks c.in_ok-disks.ensures.counted c.in_ok-disks.ensures.all) done ended) since)
 
 pub returns-clause-sound : goal.returns-clause-sound
 returns-clause-sound g c = λ images offered.

@@ -7,6 +7,7 @@ use Rattle.qc_opening.specs.Disks.{all_places, told_by}
 use Rattle.qc_opening.specs.Images.{IsFirstFault}
 use Rattle.qc_opening.specs.Parts.{counted_by, disks_held, pairs_held}
 use Rattle.qc_opening.specs.Refusing.{disks_in, reason_in, AreLeft, IsReasonAmong, TellImages}
+use Rattle.qc_opening.specs.SinceFolds.{SinceFolds}
 use Rattle.qc_opening.specs.Stored.{HasRun}
 use Rattle.qc_opening.specs.declared.mount_no.MountNo.TheVariants as no
 use Rattle.qc_opening.proofs.Leaving.{pairs_unrun}
@@ -57,7 +58,7 @@ returns-in-Ok-run_mounted-clause-ran g c =
     let view = g.D.Disk.view in
     let told = told_by (map (λ d. (view d).content) g.given) in
     let counts = counted_by (map (λ d. (view d).faults) g.given) in
-    subst (λ most. HasRun view (plan_of_script c.args.script.now) most told counts c.in-Ok-run_mounted.stored) c.in-Ok-mount_disks.ensures.store.2.ledger_is.limit_is c.in-Ok-run_mounted.ensures.ran
+    subst (λ most. SinceFolds c.args.script.now.table told (λ now. HasRun view (plan_of_script c.args.script.now) most now counts c.in-Ok-run_mounted.stored)) c.in-Ok-mount_disks.ensures.store.2.ledger_is.limit_is c.in-Ok-run_mounted.ensures.ran
 
 pub returns-in-Ok-run_mounted-clause-sound : goal.returns-in-Ok-run_mounted-clause-sound
 returns-in-Ok-run_mounted-clause-sound g c = λ images told.

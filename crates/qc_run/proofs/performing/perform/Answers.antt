@@ -13,10 +13,10 @@ on_ok (Ok x) P is has = has
 on_ok (Err e) P is has = absurd (true≢false (sym is))
 
 pub finish-status-requires-clause-proper : goal.finish-status-requires-clause-proper
-finish-status-requires-clause-proper g c = proper_start (plan_of_script c.args.script.now) _ c.in-Ok.ensures.grown.records c.in-Ok.stored.epoch c.in-Ok.stored.ended.start c.requires.proper c.in-Ok.ensures.grown.mounted
+finish-status-requires-clause-proper g c = proper_start (plan_of_script c.args.script.now) _ c.in-Ok.ensures.grown.2.records c.in-Ok.stored.epoch c.in-Ok.stored.ended.start c.requires.proper c.in-Ok.ensures.grown.2.mounted
 
 pub finish-status-requires-clause-as_many : goal.finish-status-requires-clause-as_many
-finish-status-requires-clause-as_many g c = c.in-Ok.ensures.grown.mounted.mounted.as_many
+finish-status-requires-clause-as_many g c = c.in-Ok.ensures.grown.2.mounted.mounted.as_many
 
 pub returns-in-Ok-clause-answer : goal.returns-in-Ok-clause-answer
 returns-in-Ok-clause-answer g c =

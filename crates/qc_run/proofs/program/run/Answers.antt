@@ -17,7 +17,7 @@ pub returns-clause-legal_history : goal.returns-clause-legal_history
 returns-clause-legal_history g c = clause.of_run _ g.H.Shop.view _ _ _ _ _ _ _ _ _ c.answer.ensures.answer (λ s it has. has.legal)
 
 pub returns-clause-as_many : goal.returns-clause-as_many
-returns-clause-as_many g c = clause.of_run _ g.H.Shop.view _ _ _ _ _ _ _ _ _ c.answer.ensures.answer (λ s it has. has.grown.mounted.mounted.as_many)
+returns-clause-as_many g c = clause.of_run _ g.H.Shop.view _ _ _ _ _ _ _ _ _ c.answer.ensures.answer (λ s it has. has.grown.2.mounted.mounted.as_many)
 
 pub returns-clause-none_obtained : goal.returns-clause-none_obtained
 returns-clause-none_obtained g c = clause.none_obtained _ g.H.Shop.view _ _ _ _ _ _ _ _ c.answer.ensures.answer

@@ -33,8 +33,8 @@ other_disk-requires g c = omega (arith, c.requires.copy, few_copies c.args.table
 pub begin-requires-clause-few : goal.begin-requires-clause-few
 begin-requires-clause-few g c = few_copies c.args.table.now c.requires.proper
 
-pub into_fold-journal-requires-clause-few : goal.into_fold-journal-requires-clause-few
-into_fold-journal-requires-clause-few g c = few_copies c.args.table.now c.requires.proper
+pub into_fold-journal-requires : goal.into_fold-journal-requires
+into_fold-journal-requires g c = record { few = few_copies c.args.table.now c.requires.proper }
 
 pub returns-in-Ok-begin-clause-finds : goal.returns-in-Ok-begin-clause-finds
 returns-in-Ok-begin-clause-finds g c =

@@ -10,15 +10,15 @@ use Rattle.qc_site.specs.Renewal.{restored_in}
 use Rattle.qc_site.specs.Renewing.{IsNotRenewed, Renews}
 use Rattle.qc_site.specs.Start.{start_of}
 use Rattle.qc_site.proofs.Faults.{few_copies}
-use Rattle.qc_site.proofs.PairRenewals.{found_older, never_older}
+use Rattle.qc_site.proofs.PairRenewals.{found_now, found_older}
 use Rattle.qc_site.proofs.RenewedHalves.{own_half, refused_pair, spare_half}
 use Rattle.qc_site.proofs.RenewedPair.{renewed_mounts, renewed_start}
 use Rattle.qc_site.proofs.mounting.mount_pair.Goals as goal
 
--- none is of an older format today
-pub renew-requires-clause-begun : goal.renew-requires-clause-begun
-renew-requires-clause-begun g c =
-    absurd (never_older _ (found_older _ c.args.table.now c.args.past.now c.args.limit c.in_ok-mounted.format _ _ c.in_ok-mounted.ensures.finds.mounts (subst AreBytes c.records.ensures c.are_bytes.ensures) (λ is. omega (arith, c.if-format-eq-FORMAT.false, is))))
+pub returns-then-format-eq-FORMAT-clause-mounts : goal.returns-then-format-eq-FORMAT-clause-mounts
+returns-then-format-eq-FORMAT-clause-mounts g c =
+    found_now c.args.copy c.args.table.now (g.D.Disk.view c.args.disk).content (g.D.Disk.view c.args.spare).content c.args.past.now c.args.limit c.in_ok-mounted.format c.in_ok-mounted.mounted c.in_ok-mounted.fold c.in_ok-mounted.ensures.finds
+    c.if-format-eq-FORMAT.true
 
 pub returns-clause-mounts : goal.returns-clause-mounts
 returns-clause-mounts g c =
@@ -30,7 +30,7 @@ returns-clause-mounts g c =
     let older = found_older _ table past c.args.limit c.in_ok-mounted.format _ _ told.finds.mounts (subst AreBytes c.records.ensures c.are_bytes.ensures) (λ is. omega (arith, c.if-format-eq-FORMAT.false, is)) in
     IfOk-weaker c.renew.result (λ x. Renews table past m f x.0 x.1) (λ x. MountsCopyPair c.args.copy table past c.args.limit (g.D.Disk.view c.args.disk).content (g.D.Disk.view c.args.spare).content x.0 x.1)
     (λ x renews. renewed_mounts c.args.copy table past c.args.limit c.in_ok-mounted.format (g.D.Disk.view c.args.disk).content (g.D.Disk.view c.args.spare).content m f told.finds older told.copy.0 x.0 x.1 renews
-    (λ disk low. made_proper disk table low c.requires.proper) (omega (arith, c.requires.copy, few_copies table c.requires.proper)) g.met.D.Disk.reads_as_image)
+    (λ disk low. made_proper disk table low c.requires.proper) (omega (arith, c.requires.copy, few_copies table c.requires.proper)) g.met.D.Disk.reads_as_image told.fold.limit_is)
     c.renew.ensures.renews
 
 pub returns-clause-start : goal.returns-clause-start

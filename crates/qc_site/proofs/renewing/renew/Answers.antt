@@ -16,11 +16,11 @@ use Rattle.qc_site.proofs.renewing.renew.Goals as goal
 
 pub returns-in_default-clause-fits : goal.returns-in_default-clause-fits
 returns-in_default-clause-fits g c =
-    may_fit c.args.table.now c.args.past.now c.args.mounted c.args.fold c.requires.may c.requires.proper (subst AreBytes c.records.ensures c.are_bytes.ensures) c.requires.begun (omega arith)
+    may_fit c.args.table.now c.args.past.now c.args.mounted c.args.fold c.requires.may c.requires.proper (subst AreBytes c.records.ensures c.are_bytes.ensures) (omega arith)
 
 pub returns-in_default-start_of-clause-fits : goal.returns-in_default-start_of-clause-fits
 returns-in_default-start_of-clause-fits g c =
-    may_fit c.args.table.now c.args.past.now c.args.mounted c.args.fold c.requires.may c.requires.proper (subst AreBytes c.records.ensures c.are_bytes.ensures) c.requires.begun (omega arith)
+    may_fit c.args.table.now c.args.past.now c.args.mounted c.args.fold c.requires.may c.requires.proper (subst AreBytes c.records.ensures c.are_bytes.ensures) (omega arith)
 
 pub renew-requires-clause-fit : goal.renew-requires-clause-fit
 renew-requires-clause-fit g c =
@@ -51,13 +51,13 @@ returns-in-Ok-renew-clause-renews g c =
         epoch = did.exchanged.epoch;
         copies = did.exchanged.copies;
       };
-      fits = may_fit table past mounted fold may c.requires.proper (subst AreBytes c.records.ensures c.are_bytes.ensures) c.requires.begun (omega arith) did.low;
+      fits = may_fit table past mounted fold may c.requires.proper (subst AreBytes c.records.ensures c.are_bytes.ensures) (omega arith) did.low;
       room = λ place full. did.room place (full_before table past mounted fold may tuples c.in-Ok-start_of.ensures place full);
     }
 
 pub returns-in-Ok-renew-clause-fits : goal.returns-in-Ok-renew-clause-fits
 returns-in-Ok-renew-clause-fits g c =
-    may_fit c.args.table.now c.args.past.now c.args.mounted c.args.fold c.requires.may c.requires.proper (subst AreBytes c.records.ensures c.are_bytes.ensures) c.requires.begun (omega arith)
+    may_fit c.args.table.now c.args.past.now c.args.mounted c.args.fold c.requires.may c.requires.proper (subst AreBytes c.records.ensures c.are_bytes.ensures) (omega arith)
 
 pub returns-in-Ok-renew-clause-any_moment : goal.returns-in-Ok-renew-clause-any_moment
 returns-in-Ok-renew-clause-any_moment g c = λ bodies k.
@@ -84,7 +84,7 @@ returns-clause-refused g c =
 
 pub returns-clause-fits : goal.returns-clause-fits
 returns-clause-fits g c =
-    may_fit c.args.table.now c.args.past.now c.args.mounted c.args.fold c.requires.may c.requires.proper (subst AreBytes c.records.ensures c.are_bytes.ensures) c.requires.begun (omega arith)
+    may_fit c.args.table.now c.args.past.now c.args.mounted c.args.fold c.requires.may c.requires.proper (subst AreBytes c.records.ensures c.are_bytes.ensures) (omega arith)
 
 pub returns-clause-any_moment : goal.returns-clause-any_moment
 returns-clause-any_moment g c = λ bodies k.
