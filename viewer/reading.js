@@ -16,11 +16,12 @@ const Reading = (() => {
   }
 
   class Cursor {
-    constructor(bytes, at = 0, end = bytes.length) {
+    constructor(bytes, at = 0, end = bytes.length, format = 1) {
       this.bytes = bytes;
       this.view = new DataView(bytes.buffer, bytes.byteOffset, bytes.byteLength);
       this.at = at;
       this.end = end;
+      this.format = format;
     }
 
     fail(what, place = this.at) {
@@ -84,8 +85,15 @@ const Reading = (() => {
       return { votes, read, write };
     }
 
+    // A number, which has 00 before it from the second format on.
+    value(what) {
+      const tag = this.format > 1 ? this.byte(what) : 0;
+      if (tag !== 0) this.fail(`${tag} is no value`, this.at - 1);
+      return this.long(what);
+    }
+
     tuple(copies) {
-      const [version, value, generation] = [this.long("a tuple"), this.long("a tuple"), this.long("a tuple")];
+      const [version, value, generation] = [this.long("a tuple"), this.value("a tuple"), this.long("a tuple")];
       return { version, value, generation, config: this.config(copies) };
     }
   }
@@ -107,9 +115,10 @@ const Reading = (() => {
 
   // The body that says how the ledger's disk is made: with how many copies, and which records.
   function readMade(cursor) {
-    for (const [wanted, what] of [[1, "made record"], [1, "format"], [0, "ledger's disk"]]) {
+    for (const [wanted, what] of [[[1], "made record"], [[1, 2], "format"], [[0], "ledger's disk"]]) {
       const found = cursor.byte(`a ${what}`);
-      if (found !== wanted) cursor.fail(`${found} is no ${what}`, cursor.at - 1);
+      if (!wanted.includes(found)) cursor.fail(`${found} is no ${what}`, cursor.at - 1);
+      if (what === "format") cursor.format = found;
     }
     const copies = readCount(cursor, 16, "copies");
     const records = [];
@@ -117,7 +126,7 @@ const Reading = (() => {
       const from = cursor.at;
       const name = readLabel(cursor);
       if (records.some((record) => record.name === name)) cursor.fail(`a second record is named ${name}`, from);
-      records.push({ name, start: cursor.long("a start"), config: cursor.config(copies) });
+      records.push({ name, start: cursor.value("a start"), config: cursor.config(copies) });
     }
     if (cursor.at !== cursor.end) cursor.fail("bytes stand behind the made record");
     return { copies, records };
@@ -149,9 +158,10 @@ const Reading = (() => {
     const made = new Cursor(bytes, cursor.at, cursor.at + size);
     const table = readMade(made);
     cursor.at = made.end;
+    cursor.format = made.format;
     const base = readBase(cursor, table);
     const count = Number(cursor.long("the number of entries"));
-    return { bytes, table, base, count, at: cursor.at };
+    return { bytes, table, base, count, at: cursor.at, format: cursor.format };
   }
 
   function readKind(cursor, copies) {
@@ -161,7 +171,7 @@ const Reading = (() => {
       case 1:
         return { what: "read", record: cursor.byte("a record") };
       case 2:
-        return { what: "write", record: cursor.byte("a record"), value: cursor.long("a value") };
+        return { what: "write", record: cursor.byte("a record"), value: cursor.value("a value") };
       case 3:
         return { what: "reconf", record: cursor.byte("a record"), config: cursor.config(copies) };
       default:
@@ -174,7 +184,7 @@ const Reading = (() => {
       case 0:
         return { what: "get" };
       case 1:
-        return { what: "data", version: cursor.long("a version"), value: cursor.long("a value") };
+        return { what: "data", version: cursor.long("a version"), value: cursor.value("a value") };
       default:
         return { what: "config", generation: cursor.long("a generation"), config: cursor.config(copies) };
     }
@@ -198,7 +208,7 @@ const Reading = (() => {
       case 0:
         return { what: "nothing" };
       case 1:
-        return { what: "value", value: cursor.long("a value") };
+        return { what: "value", value: cursor.value("a value") };
       case 2:
         return { what: "generation", generation: cursor.long("a generation") };
       default:

@@ -12,7 +12,7 @@ const Trails = (() => {
       this.illegal = null;
       this.history = new History(head.table, head.base);
       this.order = new Serial.Order(this.history);
-      this.cursor = new Reading.Cursor(head.bytes, head.at);
+      this.cursor = new Reading.Cursor(head.bytes, head.at, head.bytes.length, head.format);
       this.open = new Set();
       this.checkpoints = [{ place: -1, open: [], started: 0 }];
     }
@@ -23,7 +23,7 @@ const Trails = (() => {
     }
 
     entry(place) {
-      return Reading.readEntry(new Reading.Cursor(this.bytes, this.offsets[place]), this.table.copies);
+      return Reading.readEntry(new Reading.Cursor(this.bytes, this.offsets[place], this.bytes.length, this.format), this.table.copies);
     }
 
     // Reads so many entries more. Behind one that is not allowed the others are only read.
