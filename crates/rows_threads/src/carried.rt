@@ -15,10 +15,10 @@ const PAIRS: usize = 4;
 const SPARES: usize = 17;
 
 /// How long the ledger's journal is where it has just how its disk was made and a base.
-const LEDGER: usize = 47;
+const LEDGER: usize = 48;
 
 /// How long a copy's then is.
-const COPY: usize = 79;
+const COPY: usize = 81;
 
 // A disk with the bytes of another.
 fn again(alloc: Global, disk: &MemDisk) -> Result<MemDisk, AllocError> {
