@@ -1,5 +1,5 @@
 //! What is looked up under the lock beside how names stand.
-ghost use Rattle.std.specs.Prelude.{◌≡◌, ◌<◌, [], is_none, length, option_and_then, IfOk};
+ghost use Rattle.std.specs.Prelude.{◌≡◌, ◌<◌, [], is_none, length, option_and_then, slice_get, IfOk};
 ghost use Rattle.qc_event.specs.History.{granted, grants, refused};
 ghost use Rattle.qc_event.specs.Listed.{aborted_below};
 ghost use Rattle.qc_event.specs.Standing.{open_child};
@@ -39,6 +39,20 @@ impl<N: Store> Locked<N> {
         ensures { IfOk result (λ found. found.items ≡ aborted_below self.now top.now) }
     {
         self.history.aborted_below(top)
+    }
+
+    /// How many grants a copy gave.
+    pub(crate) fn count_of(&self, copy: u8) -> usize
+        ensures { result ≡ length (grants self.now copy) }
+    {
+        self.history.count_of(copy)
+    }
+
+    /// The grant of a copy at an index, in the order in which it gave them.
+    pub(crate) fn nth_of(&self, copy: u8, index: usize) -> Option<Grant>
+        ensures { result ≡ slice_get (grants self.now copy) index }
+    {
+        self.history.nth_of(copy, index)
     }
 
     /// A copy's grants, in order.

@@ -36,38 +36,26 @@ impl<N: Store> Locked<N> {
         self.dead(name).is_none()
     }
 
-    // These tuples, changed by the grants that are not dead.
-    fn changed(
-        &self,
-        alloc: Global,
-        start: &[Tuple],
-        grants: &[Grant],
-    ) -> Result<Vec<Tuple>, AllocError>
-        ensures { IfOk result (λ row. row.items ≡ changed_row (is_alive self.now)
-            (length start.now) (from_row start.now) grants.now) }
+    // What a copy holds that started with these tuples.
+    fn held(&self, alloc: Global, start: &[Tuple], copy: u8) -> Result<Vec<Tuple>, AllocError>
+        ensures { IfOk result (λ row. row.items ≡ held_row start.now self.now copy) }
     {
         let mut row = start.to_vec(alloc)?;
-        for grant in grants {
+        for index in 0..self.count_of(copy) {
+            let Some(grant) = self.nth_of(copy, index) else {
+                continue;
+            };
             if self.is_alive(&grant.access) {
-                change_tuple(&mut row, grant);
+                change_tuple(&mut row, &grant);
             }
         }
         Ok(row)
-    }
-
-    // What a copy holds that started with these tuples.
-    fn held(&self, alloc: Global, start: &[Tuple], copy: u8) -> Result<Vec<Tuple>, AllocError>
-        requires { copy < 16 }
-        ensures { IfOk result (λ row. row.items ≡ held_row start.now self.now copy) }
-    {
-        let granted = self.of_copy(copy)?;
-        self.changed(alloc, start, granted.as_slice())
     }
 }
 
 impl<N: Store> Desk<N> {
     /// What a copy holds of each record, in the history at this step. It reads each grant of the copy once, and takes a
-    /// step for each of the numbers of its access. The only error is want of memory for the lists.
+    /// step for each of the numbers of its access. The only error is want of memory for the row.
     pub fn held<R: Wait>(
         &self,
         rt: &R,

@@ -1,5 +1,5 @@
 //! What is looked up in a history beside how names stand, each by an index.
-ghost use Rattle.std.specs.Prelude.{◌≡◌, ◌<◌, [], is_none, length, option_and_then, IfOk};
+ghost use Rattle.std.specs.Prelude.{◌≡◌, ◌<◌, [], is_none, length, option_and_then, IfOk, slice_get};
 ghost use Rattle.qc_event.specs.Base.{Setting};
 ghost use Rattle.qc_event.specs.History.{granted, grants, refused};
 ghost use Rattle.qc_event.specs.Legal.{Legal};
@@ -60,6 +60,20 @@ impl History {
         ensures { IfOk result (λ found. found.items ≡ aborted_below self.now top.now) }
     {
         self.beside.aborted_below(&self.index, &self.entries, top)
+    }
+
+    /// How many grants a copy gave.
+    pub fn count_of(&self, copy: u8) -> usize
+        ensures { result ≡ length (grants self.now copy) }
+    {
+        self.beside.count_of(&self.entries, copy)
+    }
+
+    /// The grant of a copy at an index, in the order in which it gave them.
+    pub fn nth_of(&self, copy: u8, index: usize) -> Option<Grant>
+        ensures { result ≡ slice_get (grants self.now copy) index }
+    {
+        self.beside.nth_of(&self.entries, copy, index)
     }
 
     /// A copy's grants, in order.

@@ -145,6 +145,26 @@ impl Grants {
         }
     }
 
+    /// How many grants a copy gave. It reads none of them.
+    pub(crate) fn count_of(&self, entries: &Trail, copy: u8) -> usize
+        requires kept { AreGrants self.now (reverse entries.now) }
+        ensures { result ≡ length (grants (reverse entries.now) copy) }
+    {
+        self.places(copy).len()
+    }
+
+    /// The grant of a copy at an index, in the order in which it gave them.
+    pub(crate) fn nth(&self, entries: &Trail, copy: u8, index: usize) -> Option<Grant>
+        requires kept { AreGrants self.now (reverse entries.now) }
+        ensures { result ≡ slice_get (grants (reverse entries.now) copy) index }
+    {
+        let places = self.places(copy);
+        if index >= places.len() {
+            return None;
+        }
+        grant_of(&entries.at(places[index] as usize))
+    }
+
     /// A copy's grants, in order. It reads each of them once. The only error is want of memory for the list.
     pub(crate) fn of_copy(
         &self,

@@ -1,5 +1,5 @@
 //! All that is kept beside a history.
-ghost use Rattle.std.specs.Prelude.{◌≡◌, ◌<◌, [], ◌∷◌, OnOk, IfOk, is_none, length, option_and_then, reverse};
+ghost use Rattle.std.specs.Prelude.{◌≡◌, ◌<◌, [], ◌∷◌, OnOk, IfOk, is_none, length, option_and_then, reverse, slice_get};
 ghost use Rattle.qc_event.specs.Base.{Setting};
 ghost use Rattle.qc_event.specs.History.{Past, limit, granted, grants, refused};
 ghost use Rattle.qc_event.specs.Legal.{Legal};
@@ -132,6 +132,22 @@ impl Indexes {
             found.items ≡ aborted_below (reverse entries.now) top.now) }
     {
         self.aborts.below(self.alloc, names, entries, top)
+    }
+
+    /// How many grants a copy gave. It reads none of them.
+    pub fn count_of(&self, entries: &Trail, copy: u8) -> usize
+        requires { AreOf self.now (reverse entries.now) }
+        ensures { result ≡ length (grants (reverse entries.now) copy) }
+    {
+        self.grants.count_of(entries, copy)
+    }
+
+    /// The grant of a copy at an index, in the order in which it gave them. It reads that one.
+    pub fn nth_of(&self, entries: &Trail, copy: u8, index: usize) -> Option<Grant>
+        requires { AreOf self.now (reverse entries.now) }
+        ensures { result ≡ slice_get (grants (reverse entries.now) copy) index }
+    {
+        self.grants.nth(entries, copy, index)
     }
 
     /// A copy's grants, in order. It reads each of them once. The only error is want of memory for the list.

@@ -1,7 +1,0 @@
--- What the grants so far leave.
-use Rattle.std.proofs.Common.{◌≡◌, length, take}
-use Rattle.qc_desk.specs.Held.{changed_row, from_row, is_alive}
-use Rattle.qc_desk.proofs.locked.Locked.changed.Given as goal
-
-abbrev pub invariant-loop-grant : goal.invariant-loop-grant
-invariant-loop-grant g l = l.row.items ≡ changed_row (is_alive l.self) (length l.start) (from_row l.start) (take l.grant-index l.grants)
