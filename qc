@@ -51,9 +51,9 @@ END
     cat <<'END'
 
 The other steps are ["add", R, n], ["sub", R, n], ["need", R, n], ["reconf", R, config],
-["child", body], ["par", [body, ..]], ["abort", k], ["crash", c] and ["kill", s]. Beside "steps" a
-body may have "tries" and "must"; beside "tops" a session may have "net", with "fates" and "hold";
-a script may have "patience".
+["child", body], ["par", [body, ..]], ["abort", k], ["crash", c] and ["kill", s]. The value in "start"
+and "set" is a number or a text; n is a number. Beside "steps" a body may have "tries" and "must";
+beside "tops" a session may have "net", with "fates" and "hold"; a script may have "patience".
 
 The exit status is 0 where the report was written, 2 for words that are no command, 3 for a text
 that is no script, 4 and 5 where the input or the output failed, 6 where a disk failed, 7 where what

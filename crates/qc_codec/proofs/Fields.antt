@@ -1,13 +1,13 @@
 -- Names, configurations and tuples are exact.
 use mathlib.Core.Bool.{true≢false}
-use Rattle.std.proofs.Common.{◌≡◌, ℕ, ◌-◌, ◌<◌, Bool, true, false, List, [], ◌∷◌, length, refl, sym, ap, arith}
+use Rattle.std.proofs.Common.{◌≡◌, ℕ, ◌-◌, ◌<◌, Bool, true, false, Some, List, [], ◌∷◌, length, refl, sym, ap, arith}
 use Rattle.std.specs.Prelude.{◌==◌, nat_lt}
 use Rattle.std.proofs.lemmas.Bool.{and_parts, ltb-true}
-use Rattle.qc_config.specs.Val.{Datum, Number, number_of}
+use Rattle.qc_config.specs.Val.{Datum, Number, Text, number_of, bytes_of}
 use Rattle.qc_event.specs.History.{Name}
-use Rattle.qc_codec.specs.Form.{Form, Any, byte, run, pair, only, times}
-use Rattle.qc_codec.specs.Fields.{Layout, half, long, top_number, some_number, is_top, is_some_number, is_length, name_of, parts_of_name, has_no_fault, name, number_datum, datum_by, datum, config, tuple, word}
-use Rattle.qc_codec.proofs.Exact.{IsExact, exact_byte, exact_half, exact_word, exact_long, exact_run, exact_pair, exact_as, exact_only, exact_marked, exact_times}
+use Rattle.qc_codec.specs.Form.{Form, Any, byte, run, pair, only, times, text}
+use Rattle.qc_codec.specs.Fields.{Layout, half, long, top_number, some_number, is_top, is_some_number, is_length, name_of, parts_of_name, has_no_fault, name, is_short, number_datum, text_datum, datum_tag, datum_by, datum, config, tuple, word}
+use Rattle.qc_codec.proofs.Exact.{IsExact, exact_byte, exact_half, exact_word, exact_long, exact_run, exact_pair, exact_as, exact_only, exact_marked, exact_times, exact_text, exact_variant, variant_tag, exact_choose, tagged_under, tagged_nothing}
 
 pub exact_top_number : IsExact top_number
 exact_top_number = exact_only is_top long exact_long
@@ -40,16 +40,39 @@ exact_name least = exact_as name_of parts_of_name Any _ (exact_parts least) back
         let same : length (p.1.0 ∷ p.1.1) ≡ p.0 = omega (arith, some, rest) in
         (ap (λ (k : ℕ). (k, p.1)) same, tt)
 
-number_back : (v : Datum) → Number (number_of v) ≡ v
-number_back (Number n) = refl
+number_back : (v : Datum) (n : ℕ) → number_of v ≡ Some n → Number n ≡ v
+number_back (Number m) n is = cc
+number_back (Text bytes) n is = absurd cc
+
+text_back : (v : Datum) (bytes : List ℕ) → bytes_of v ≡ Some bytes → Text bytes ≡ v
+text_back (Number n) bytes is = absurd cc
+text_back (Text other) bytes is = cc
 
 exact_number : IsExact number_datum
 unfolding number_datum
-exact_number = exact_as Number number_of Any long exact_long (λ v fits any. number_back v) (λ n fits. (refl, tt))
+exact_number = exact_variant Number number_of long exact_long (λ n fits. refl) number_back
+
+number_tagged : (v : Datum) → number_datum.fits v → datum_tag v ≡ 0
+unfolding number_datum
+number_tagged = variant_tag Number number_of long datum_tag 0 (λ n. refl) number_back
+
+short_text : Form (List ℕ)
+short_text = text (only is_short half)
+
+exact_of_text : IsExact text_datum
+unfolding text_datum short_text
+exact_of_text = exact_variant Text bytes_of short_text (exact_text _ (exact_only is_short half exact_half)) (λ bytes fits. refl) text_back
+
+text_tagged : (v : Datum) → text_datum.fits v → datum_tag v ≡ 1
+unfolding text_datum short_text
+text_tagged = variant_tag Text bytes_of short_text datum_tag 1 (λ bytes. refl) text_back
 
 exact_datum_by : (b : Bool) → IsExact (datum_by b)
 exact_datum_by true = exact_number
-exact_datum_by false = exact_marked 0 number_datum exact_number
+exact_datum_by false = exact_choose datum_tag _
+    (tagged_under datum_tag 0 _ _ exact_number number_tagged
+    (tagged_under datum_tag 1 _ _ exact_of_text text_tagged
+    (tagged_nothing datum_tag)))
 
 pub exact_datum : (format : ℕ) → IsExact (datum format)
 unfolding datum

@@ -8,7 +8,7 @@ use Rattle.std.proofs.lemmas.List.Elements.{All-nil, All-cons, All-head, All-tai
 use Rattle.qc_names.specs.Name.{longest}
 use Rattle.qc_config.proofs.Faults.{legal_unless_fault}
 use Rattle.qc_config.specs.Config.{Voting, IsLegal, fault, votes_of}
-use Rattle.qc_config.specs.Val.{Datum, number_of}
+use Rattle.qc_config.specs.Val.{Datum, Number, Text, IsPossible, longest as longest_text}
 use Rattle.qc_config.specs.declared.config.BadConfig.{BadConfig}
 use Rattle.qc_config.specs.declared.tuple.Op.{Op}
 use Rattle.qc_config.specs.declared.tuple.Op.TheVariants.{Get, PutData, PutConfig}
@@ -22,7 +22,7 @@ use Rattle.qc_codec.specs.declared.record.BaseRecord.{BaseRecord}
 use Rattle.qc_codec.specs.declared.record.Made.{Made}
 use Rattle.qc_codec.specs.declared.record.LedgerRecord.TheVariants as ledger_record
 use Rattle.qc_codec.specs.Form.{byte, only}
-use Rattle.qc_codec.specs.Fields.{config, current_format, datum, datum_by, half, is_length, is_top, layout, long, name, number_datum, some_number, tuple, word, Layout, IsNumbered}
+use Rattle.qc_codec.specs.Fields.{config, current, current_format, datum, datum_by, half, is_length, is_top, layout, long, name, number_datum, some_number, text_datum, tuple, word, Layout, IsNumbered}
 use Rattle.qc_codec.specs.Ledger.{made_for}
 use Rattle.qc_codec.specs.Bodies.{HasLengths, is_between, is_code, code_of, label, row, table, making, made, granted, grant, folded, base, below, top, ledger}
 
@@ -95,35 +95,38 @@ made_sized m fits = making_sized m fits
 
 -- A FORMAT BEHIND ANOTHER
 
--- what fits in one format fits in the other
-datum_renewed : (f g : ℕ) (v : Datum) → (datum f).fits v → (datum g).fits v
+-- what fits in any format fits in the current one
+number_renewed : (v : Datum) → number_datum.fits v → (datum_by false).fits v
+unfolding number_datum
+number_renewed (Number n) fits = fits
+number_renewed (Text bytes) fits = absurd fits
+
+datum_renewed : (f : ℕ) (v : Datum) → (datum f).fits v → (datum current_format).fits v
 unfolding datum
-datum_renewed f g v = by (f == 1) (g == 1)
+datum_renewed f v = by (f == 1)
   where
-    by : (a b : Bool) → (datum_by a).fits v → (datum_by b).fits v
-    by true true fits = fits
-    by true false fits = fits
-    by false true fits = fits
-    by false false fits = fits
+    by : (b : Bool) → (datum_by b).fits v → (datum_by false).fits v
+    by true fits = number_renewed v fits
+    by false fits = fits
 
-pub config_renewed : (copies f g : ℕ) (c : Voting) → (config (layout copies f)).fits c → (config (layout copies g)).fits c
+config_renewed : (copies f : ℕ) (c : Voting) → (config (layout copies f)).fits c → (config (current copies)).fits c
 unfolding config
-config_renewed copies f g c fits = fits
+config_renewed copies f c fits = fits
 
-pub tuple_renewed : (copies f g : ℕ) (t : Tuple) → (tuple (layout copies f)).fits t → (tuple (layout copies g)).fits t
+pub tuple_renewed : (copies f : ℕ) (t : Tuple) → (tuple (layout copies f)).fits t → (tuple (current copies)).fits t
 unfolding tuple
-tuple_renewed copies f g t fits = ((fits.0.0, (datum_renewed f g t.value fits.0.1.0, (fits.0.1.1.0, config_renewed copies f g t.config fits.0.1.1.1))), fits.1)
+tuple_renewed copies f t fits = ((fits.0.0, (datum_renewed f t.value fits.0.1.0, (fits.0.1.1.0, config_renewed copies f t.config fits.0.1.1.1))), fits.1)
 
-row_renewed : (copies f g : ℕ) (r : Row) → (row (layout copies f)).fits r → (row (layout copies g)).fits r
+row_renewed : (copies f : ℕ) (r : Row) → (row (layout copies f)).fits r → (row (current copies)).fits r
 unfolding row
-row_renewed copies f g r fits = ((fits.0.0, (datum_renewed f g r.start fits.0.1.0, config_renewed copies f g r.config fits.0.1.1)), fits.1)
+row_renewed copies f r fits = ((fits.0.0, (datum_renewed f r.start fits.0.1.0, config_renewed copies f r.config fits.0.1.1)), fits.1)
 
 -- a table of any format fits the current one
 pub table_renewed : (m : Made) → made.fits m → (table current_format).fits m.table
 unfolding made making table
 table_renewed m fits =
     let t = fits.0.1.1 in
-    (((t.0.0.0, ((t.0.0.1.0.0, (t.0.0.1.0.1.0, λ k d lt. row_renewed m.table.copies m.format current_format _ (t.0.0.1.0.1.1 k d lt))), t.0.0.1.1)), t.0.1), t.1)
+    (((t.0.0.0, ((t.0.0.1.0.0, (t.0.0.1.0.1.0, λ k d lt. row_renewed m.table.copies m.format _ (t.0.0.1.0.1.1 k d lt))), t.0.0.1.1)), t.0.1), t.1)
 
 pub made_renewed : (m : Made) → made.fits m → made.fits (made_for m.who m.table)
 unfolding made making
@@ -147,6 +150,10 @@ granted_votes least layout g fits = tuple_votes layout g.tuple fits.0.1.1.1
 pub grant_granted : (layout : Layout) (g : Grant) → (grant layout).fits g → (granted 3 layout).fits g
 unfolding grant
 grant_granted layout g fits = fits
+
+pub grant_renewed : (copies f : ℕ) (g : Grant) → (grant (layout copies f)).fits g → (grant (current copies)).fits g
+unfolding grant granted
+grant_renewed copies f g fits = ((fits.0.0, (fits.0.1.0, (fits.0.1.1.0, tuple_renewed copies f g.tuple fits.0.1.1.1))), fits.1)
 
 -- any name's spelling is the same, whatever its least length
 pub same_spelling : (least : ℕ) → (name 1).spell ≡ (name least).spell
@@ -238,18 +245,11 @@ pub config_fits : (l : Layout) (c : Voting) → length c.votes ≡ l.copies → 
 unfolding config half
 config_fits l c same none range = ((((same, All-from_get_or (λ v. v < 256) c.votes 0 range.votes), (range.read, range.write)), tt), ap is_none none)
 
--- a value whose number eight bytes hold has a spelling, in each format
-pub number_datum_fits : (v : Datum) (n : ℕ) → n ≡ number_of v → n < 2 ^ 64 → number_datum.fits v
-unfolding number_datum long
-number_datum_fits v n is small = (subst (λ k. k < 2 ^ 64) is small, tt)
-
-pub number_fits : (format : ℕ) (v : Datum) (n : ℕ) → n ≡ number_of v → n < 2 ^ 64 → (datum format).fits v
-unfolding datum
-number_fits format v n is small = by (format == 1)
-  where
-    by : (b : Bool) → (datum_by b).fits v
-    by true = number_datum_fits v n is small
-    by false = number_datum_fits v n is small
+-- each value that can be has a spelling
+pub value_fits : (v : Datum) → IsPossible v → (datum current_format).fits v
+unfolding datum number_datum text_datum long half
+value_fits (Number n) small = small
+value_fits (Text bytes) text = (((omega (arith, text.0), le-leb (length bytes) longest_text text.0), (refl, text.1)), tt)
 
 pub tuple_fits : (l : Layout) (t : Tuple) → t.version < 2 ^ 64 → (datum l.format).fits t.value → t.generation < 2 ^ 64 → (config l).fits t.config → (tuple l).fits t
 unfolding tuple long

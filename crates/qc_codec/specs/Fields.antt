@@ -4,10 +4,11 @@ use Rattle.std.specs.Int.{w16, w32, w64}
 use Rattle.std.specs.List.{All}
 use Rattle.qc_names.specs.Name.{longest}
 use Rattle.qc_config.specs.Config.{Voting, fault}
-use Rattle.qc_config.specs.Val.{Datum, Number, number_of}
+use Rattle.qc_config.specs.Val as val
+use Rattle.qc_config.specs.Val.{Datum, Number, Text, number_of, bytes_of}
 use Rattle.qc_config.specs.declared.tuple.Tuple.{Tuple}
 use Rattle.qc_event.specs.History.{Name}
-use Rattle.qc_codec.specs.Form.{Form, Any, byte, number, run, pair, as_another, only, marked, times}
+use Rattle.qc_codec.specs.Form.{Form, Any, byte, number, run, pair, as_another, only, marked, times, text, variant, under, nothing, choose}
 
 -- For how many copies configurations are, and the format, 1 or 2.
 pub record Layout : Type 0 where
@@ -77,12 +78,25 @@ IsNumbered (top ∷ rest) = (0 < top / 2 ^ 32) × (0 < top % 2 ^ 32) × All (λ 
 
 -- a value that is a number, in eight bytes
 unfoldable pub number_datum : Form Datum
-number_datum = as_another Number number_of Any long
+number_datum = variant Number number_of long
+
+-- no more bytes than a text has
+abbrev pub is_short : ℕ → Bool
+is_short count = nat_le count val.longest
+
+-- a value that is a text, behind its length in two bytes
+unfoldable pub text_datum : Form Datum
+text_datum = variant Text bytes_of (text (only is_short half))
+
+-- the byte that tells what a value is
+abbrev pub datum_tag : Datum → ℕ
+datum_tag (Number n) = 0
+datum_tag (Text bytes) = 1
 
 -- a value, by whether the format is the first: it is a number there, and behind it a byte tells what it is
 abbrev pub datum_by : Bool → Form Datum
 datum_by true = number_datum
-datum_by false = marked 0 number_datum
+datum_by false = choose datum_tag (under 0 number_datum (under 1 text_datum nothing))
 
 -- a value of a format
 unfoldable pub datum : ℕ → Form Datum

@@ -4,7 +4,7 @@ ghost use Rattle.std.specs.List.{All};
 ghost use Rattle.qc_config.specs.declared.tuple.Tuple.{Tuple};
 ghost use Rattle.qc_codec.specs.Bodies as body;
 ghost use Rattle.qc_codec.specs.Fields as field;
-ghost use Rattle.qc_codec.specs.Fields.{layout};
+ghost use Rattle.qc_codec.specs.Fields.{current, layout};
 ghost use Rattle.qc_codec.specs.Gives.{Reads, ReadsEach, ReadsAll, Spells, SpellsNone, Puts, PutsEach};
 ghost use Rattle.qc_codec.specs.declared.fault.CodecNo.TheVariants.{Bad};
 
@@ -126,34 +126,29 @@ pub fn read_base(
 }
 
 // Tuples, each with a configuration for so many copies.
-fn put_tuples(out: &mut Vec<u8>, copies: u8, format: u8, tuples: &[Tuple]) -> Result<(), AllocError>
+fn put_tuples(out: &mut Vec<u8>, copies: u8, tuples: &[Tuple]) -> Result<(), AllocError>
     requires copies { copies ≤ 16 }
     requires same { All (λ (t : Tuple). length t.config.votes ≡ copies) tuples.now }
-    ensures { PutsEach (field.tuple (layout copies format)) tuples.now result
+    ensures { PutsEach (field.tuple (current copies)) tuples.now result
         out.old.items out.new.items }
 {
     for tuple in tuples {
-        put_tuple(out, copies, format, tuple)?;
+        put_tuple(out, copies, tuple)?;
     }
     Ok(())
 }
 
-/// The bytes of a base record, of a store of so many copies in a format.
+/// The bytes of a base record, of a store of so many copies.
 #[tactic(auto, unfolding(crate::specs::Bodies::base, crate::specs::Bodies::folded))]
-pub fn write_base(
-    alloc: Global,
-    base: &BaseRecord,
-    copies: u8,
-    format: u8,
-) -> Result<Vec<u8>, AllocError>
+pub fn write_base(alloc: Global, base: &BaseRecord, copies: u8) -> Result<Vec<u8>, AllocError>
     requires copies { copies ≤ 16 }
-    requires proper { (body.base (layout copies format) (length base.now.tuples)).fits base.now }
+    requires proper { (body.base (current copies) (length base.now.tuples)).fits base.now }
     ensures { IfOk result (λ bytes. Spells
-        (body.base (layout copies format) (length base.now.tuples)) bytes.items base.now) }
+        (body.base (current copies) (length base.now.tuples)) bytes.items base.now) }
 {
     let mut out = vec![in alloc; 4]?;
     put_long(&mut out, base.number)?;
     put_word(&mut out, base.epoch)?;
-    put_tuples(&mut out, copies, format, base.tuples.as_slice())?;
+    put_tuples(&mut out, copies, base.tuples.as_slice())?;
     Ok(out)
 }

@@ -143,6 +143,24 @@ impl<'a> Cursor<'a> {
         Ok(Val::number(self.long()?))
     }
 
+    // A value that is a text.
+    #[tactic(auto, unfolding(crate::specs::Fields::text_datum))]
+    fn text(&mut self) -> Result<Val, CodecNo>
+        ensures taken { Reads field.text_datum result self.old self.new }
+        ensures only_bad { IfErr result (λ e. e ≡ Bad) }
+    {
+        let count = usize::from(self.half()?);
+        if self.rest.len() < count {
+            return Err(CodecNo::Bad);
+        }
+        let (text, rest) = self.rest.split_at(count);
+        self.rest = rest;
+        match Val::text(text) {
+            Some(value) => Ok(value),
+            None => Err(CodecNo::Bad),
+        }
+    }
+
     /// A value of a format.
     #[tactic(auto, unfolding(crate::specs::Fields::datum))]
     pub fn value(&mut self, format: u8) -> Result<Val, CodecNo>
@@ -154,6 +172,7 @@ impl<'a> Cursor<'a> {
         }
         match self.byte()? {
             0 => self.number(),
+            1 => self.text(),
             _ => Err(CodecNo::Bad),
         }
     }

@@ -115,7 +115,8 @@ fn put_top(out: &mut Vec<u8>, top: &Name, names: &[Name]) -> Result<(), AllocErr
 
 #[tactic(auto, unfolding(crate::specs::Bodies::ledger))]
 fn put_ledger(out: &mut Vec<u8>, logged: &LedgerRecord) -> Result<(), AllocError>
-    requires { body.ledger.fits logged.now }
+    requires fits { body.ledger.fits logged.now }
+    requires current { body.HasCurrentFormat logged.now }
     ensures { Puts body.ledger logged.now result out.old.items out.new.items }
 {
     match logged {
@@ -145,9 +146,10 @@ pub fn write_top(alloc: Global, top: &Name, aborted: &[Name]) -> Result<Vec<u8>,
     Ok(out)
 }
 
-/// The bytes of a record of the ledger.
+/// The bytes of a record of the ledger, in the current format.
 pub fn write_ledger(alloc: Global, logged: &LedgerRecord) -> Result<Vec<u8>, AllocError>
     requires proper { body.ledger.fits logged.now }
+    requires current { body.HasCurrentFormat logged.now }
     ensures { IfOk result (λ bytes. Spells body.ledger bytes.items logged.now) }
 {
     let mut out = Vec::new(alloc);

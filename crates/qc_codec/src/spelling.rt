@@ -1,7 +1,7 @@
-//! Fields behind bytes, of which nothing is known behind an error.
+//! Fields behind bytes, in the current format. Of the bytes nothing is known behind an error.
 ghost use Rattle.std.specs.Prelude.{◌≡◌, ◌<◌, ◌≤◌, length, OnOk};
 ghost use Rattle.qc_codec.specs.Fields as field;
-ghost use Rattle.qc_codec.specs.Fields.{layout, IsNumbered};
+ghost use Rattle.qc_codec.specs.Fields.{current, current_format, IsNumbered};
 ghost use Rattle.qc_codec.specs.Gives.{Puts};
 
 use qc_config::{Config, Tuple, Val};
@@ -32,33 +32,34 @@ pub fn put_long(out: &mut Vec<u8>, number: u64) -> Result<(), AllocError>
     out.extend_from_slice(&number.to_be_bytes())
 }
 
-/// Writes a value of a format behind bytes.
-#[tactic(auto, unfolding(crate::specs::Fields::datum, crate::specs::Fields::number_datum))]
-pub fn put_value(out: &mut Vec<u8>, format: u8, value: &Val) -> Result<(), AllocError>
-    ensures written { Puts (field.datum format) value.now result out.old.items out.new.items }
-    ensures fits { (field.datum format).fits value.now }
+/// Writes a value behind bytes.
+#[tactic(auto, unfolding(crate::specs::Fields::datum, crate::specs::Fields::number_datum, crate::specs::Fields::text_datum))]
+pub fn put_value(out: &mut Vec<u8>, value: &Val) -> Result<(), AllocError>
+    ensures written { Puts (field.datum current_format) value.now result
+        out.old.items out.new.items }
+    ensures fits { (field.datum current_format).fits value.now }
 {
-    let number = value.as_number();
-    if format != 1 {
-        out.push(0)?;
+    match value.as_text() {
+        Some(text) => {
+            out.push(1)?;
+            put_half(out, text.len() as u16)?;
+            out.extend_from_slice(text)
+        }
+        None => {
+            out.push(0)?;
+            put_long(out, value.as_number().unwrap_or(0))
+        }
     }
-    put_long(out, number)
 }
 
 /// Writes a configuration for so many copies behind bytes.
 #[tactic(auto, unfolding(crate::specs::Fields::config))]
-pub fn put_config(
-    out: &mut Vec<u8>,
-    copies: u8,
-    format: u8,
-    config: &Config,
-) -> Result<(), AllocError>
+pub fn put_config(out: &mut Vec<u8>, copies: u8, config: &Config) -> Result<(), AllocError>
     requires copies { copies ≤ 16 }
     requires same { length config.now.votes ≡ copies }
-    ensures written { Puts (field.config (layout copies format)) config.now result
+    ensures written { Puts (field.config (current copies)) config.now result
         out.old.items out.new.items }
-    ensures fits { OnOk result
-        (0 < copies → (field.config (layout copies format)).fits config.now) }
+    ensures fits { OnOk result (0 < copies → (field.config (current copies)).fits config.now) }
 {
     out.push(config.count() as u8)?;
     for copy in 0..copies {
@@ -70,17 +71,17 @@ pub fn put_config(
 
 /// Writes a tuple, whose configuration is for so many copies, behind bytes.
 #[tactic(auto, unfolding(crate::specs::Fields::tuple))]
-pub fn put_tuple(out: &mut Vec<u8>, copies: u8, format: u8, tuple: &Tuple) -> Result<(), AllocError>
+pub fn put_tuple(out: &mut Vec<u8>, copies: u8, tuple: &Tuple) -> Result<(), AllocError>
     requires copies { copies ≤ 16 }
     requires same { length tuple.now.config.votes ≡ copies }
-    ensures written { Puts (field.tuple (layout copies format)) tuple.now result
+    ensures written { Puts (field.tuple (current copies)) tuple.now result
         out.old.items out.new.items }
-    ensures fits { OnOk result (0 < copies → (field.tuple (layout copies format)).fits tuple.now) }
+    ensures fits { OnOk result (0 < copies → (field.tuple (current copies)).fits tuple.now) }
 {
     put_long(out, tuple.version)?;
-    put_value(out, format, &tuple.value)?;
+    put_value(out, &tuple.value)?;
     put_long(out, tuple.generation)?;
-    put_config(out, copies, format, &tuple.config)
+    put_config(out, copies, &tuple.config)
 }
 
 /// Writes a name, of at least one number, behind bytes. Its spelling is the same whatever least length a reader wants.

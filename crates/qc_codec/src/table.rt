@@ -4,7 +4,7 @@ ghost use Rattle.std.specs.Char.{is_ascii_alphanumeric};
 ghost use Rattle.std.specs.List.{All, list_all, list_any};
 ghost use Rattle.std.specs.Str.{bytes_eq};
 ghost use Rattle.qc_codec.specs.Bodies as body;
-ghost use Rattle.qc_codec.specs.Fields.{layout};
+ghost use Rattle.qc_codec.specs.Fields.{current, current_format, layout};
 ghost use Rattle.qc_codec.specs.Gives.{Reads, ReadsEach, ReadsAll, Spells, SpellsNone, Puts, PutsEach};
 ghost use Rattle.qc_codec.specs.Ledger.{made_for};
 ghost use Rattle.qc_codec.specs.declared.fault.CodecNo.TheVariants.{Bad};
@@ -181,54 +181,55 @@ fn put_label(out: &mut Vec<u8>, label: &Label) -> Result<(), AllocError>
 }
 
 #[tactic(auto, unfolding(crate::specs::Bodies::row))]
-fn put_row(out: &mut Vec<u8>, copies: u8, format: u8, row: &Row) -> Result<(), AllocError>
+fn put_row(out: &mut Vec<u8>, copies: u8, row: &Row) -> Result<(), AllocError>
     requires copies { copies ≤ 16 }
     requires lengths { body.HasLengths copies row.now }
-    ensures { Puts (body.row (layout copies format)) row.now result out.old.items out.new.items }
+    ensures { Puts (body.row (current copies)) row.now result out.old.items out.new.items }
 {
     put_label(out, &row.name)?;
-    put_value(out, format, &row.start)?;
-    put_config(out, copies, format, &row.config)
+    put_value(out, &row.start)?;
+    put_config(out, copies, &row.config)
 }
 
-fn put_rows(out: &mut Vec<u8>, copies: u8, format: u8, rows: &[Row]) -> Result<(), AllocError>
+fn put_rows(out: &mut Vec<u8>, copies: u8, rows: &[Row]) -> Result<(), AllocError>
     requires copies { copies ≤ 16 }
     requires lengths { All (body.HasLengths copies) rows.now }
-    ensures { PutsEach (body.row (layout copies format)) rows.now result
-        out.old.items out.new.items }
+    ensures { PutsEach (body.row (current copies)) rows.now result out.old.items out.new.items }
 {
     for row in rows {
-        put_row(out, copies, format, row)?;
+        put_row(out, copies, row)?;
     }
     Ok(())
 }
 
 #[tactic(auto, unfolding(crate::specs::Bodies::table))]
-fn put_table(out: &mut Vec<u8>, format: u8, table: &Table) -> Result<(), AllocError>
-    requires { (body.table format).fits table.now }
-    ensures { Puts (body.table format) table.now result out.old.items out.new.items }
+fn put_table(out: &mut Vec<u8>, table: &Table) -> Result<(), AllocError>
+    requires { (body.table current_format).fits table.now }
+    ensures { Puts (body.table current_format) table.now result out.old.items out.new.items }
 {
     let rows = table.records.as_slice();
     out.push(table.copies)?;
     out.push(rows.len() as u8)?;
-    put_rows(out, table.copies, format, rows)
+    put_rows(out, table.copies, rows)
 }
 
-/// What stands behind the first byte of a made record.
+/// What stands behind the first byte of a made record of the current format.
 #[tactic(auto, unfolding(crate::specs::Bodies::making))]
 pub(crate) fn put_making(out: &mut Vec<u8>, made: &Made) -> Result<(), AllocError>
-    requires { body.making.fits made.now }
+    requires fits { body.making.fits made.now }
+    requires current { made.now.format ≡ current_format }
     ensures { Puts body.making made.now result out.old.items out.new.items }
 {
-    out.push(made.format)?;
+    out.push(FORMAT)?;
     out.push(made.who)?;
-    put_table(out, made.format, &made.table)
+    put_table(out, &made.table)
 }
 
-/// The bytes of a made record.
+/// The bytes of a made record of the current format.
 #[tactic(auto, unfolding(crate::specs::Bodies::made))]
 pub fn write_made(alloc: Global, made: &Made) -> Result<Vec<u8>, AllocError>
     requires proper { body.made.fits made.now }
+    requires current { made.now.format ≡ current_format }
     ensures { IfOk result (λ bytes. Spells body.made bytes.items made.now) }
 {
     let mut out = vec![in alloc; 1]?;
@@ -246,7 +247,7 @@ pub fn write_made_anew(alloc: Global, made: &Made) -> Result<Vec<u8>, AllocError
     let mut out = vec![in alloc; 1]?;
     out.push(FORMAT)?;
     out.push(made.who)?;
-    put_table(&mut out, FORMAT, &made.table)?;
+    put_table(&mut out, &made.table)?;
     Ok(out)
 }
 

@@ -54,7 +54,7 @@ impl Model for Config {
 
     ghost inverse = { λ v. record { votes = v.votes ++ replicate (16 - length v.votes) 0; count = length v.votes; read = v.read; write = v.write } };
 
-    ghost inverse_ok = { λ a h. λ i. record { votes = front_padded a.count a.votes h.0 h.1 h.2 i; count = front_length a.count a.votes h.0 h.1 i; read = a.read; write = a.write } };
+    ghost inverse_ok = { λ a h. λ i. record { votes = front_padded 16 a.count a.votes h.0 h.1 h.2 i; count = front_length 16 a.count a.votes h.0 h.1 i; read = a.read; write = a.write } };
 }
 
 impl PartialEq for Config {

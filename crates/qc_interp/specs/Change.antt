@@ -1,4 +1,4 @@
--- How a step changes the value of a record.
+-- How a step changes the number of a record.
 use Rattle.std.specs.Prelude.{ℕ}
 use Rattle.qc_script.specs.Plan.{plus, minus}
 use Rattle.qc_interp.specs.declared.managing.Change.{Change}

@@ -145,7 +145,7 @@ fn act<T: Tx + Send + Drop, R: Threads + Sync>(
         Step::Set { rec, value } => {
             let what = Managed::Write {
                 rec: *rec,
-                value: *value,
+                value: value.val(),
             };
             manage(tx, of, &what)
         }

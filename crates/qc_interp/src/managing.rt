@@ -23,7 +23,7 @@ pub(crate) enum Called {
     Stopped { again: bool },
 }
 
-/// How a step changes the value of a record, modulo `2^64`.
+/// How a step changes the number of a record, modulo `2^64`.
 #[derive(Clone, Copy)]
 pub(crate) enum Change {
     Add(u64),
@@ -31,7 +31,7 @@ pub(crate) enum Change {
 }
 
 impl Change {
-    // The value, changed.
+    // The number, changed.
     fn applied(self, value: u64) -> Val
         ensures { result ≡ Number (changed self value) }
     {
@@ -42,13 +42,23 @@ impl Change {
     }
 }
 
-// The number that a read answered. No read answers anything else.
-fn value_in(answer: &Answer) -> u64
-    ensures { result ≡ plans.value_of answer.now }
+// The number that a read answered; none where it answered a text.
+fn number_in(answer: &Answer) -> Option<u64>
+    ensures { result ≡ plans.number_in answer.now }
 {
     match answer {
         Answer::Value(value) => value.as_number(),
-        _ => 0,
+        _ => None,
+    }
+}
+
+// Whether a read answered a number that is at least this one.
+fn is_enough(least: u64, answer: &Answer) -> bool
+    ensures { result ≡ plans.is_enough least answer.now }
+{
+    match number_in(answer) {
+        Some(number) => number >= least,
+        None => false,
     }
 }
 
@@ -96,7 +106,7 @@ pub(crate) fn manage<T: Tx>(tx: &mut T, of: &Name, what: &Managed) -> Result<Opt
     }
 }
 
-/// A step that reads a record and writes its value changed.
+/// A step that reads a record and writes its number changed, and aborts the transaction itself where it has a text.
 pub(crate) fn change_value<T: Tx>(
     tx: &mut T,
     of: &Name,
@@ -115,15 +125,21 @@ pub(crate) fn change_value<T: Tx>(
     ensures room { IfErr result (IsWant (T.view tx.new).seen) }
 {
     match call(tx, of, &Managed::Read { rec })? {
-        Called::Answered(given) => {
-            let value = by.applied(value_in(&given));
-            manage(tx, of, &Managed::Write { rec, value })
-        }
+        Called::Answered(given) => match number_in(&given) {
+            Some(old) => {
+                let value = by.applied(old);
+                manage(tx, of, &Managed::Write { rec, value })
+            }
+            None => {
+                let again = ask(tx, of, 0)?;
+                Ok(Some(again))
+            }
+        },
         Called::Stopped { again } => Ok(Some(again)),
     }
 }
 
-/// A step that reads a record, and aborts the transaction itself where its value is less than this.
+/// A step that reads a record, and aborts the transaction itself where it has a text, or a number that is less than this.
 pub(crate) fn need<T: Tx>(tx: &mut T, of: &Name, rec: u8, least: u64) -> Result<Option<bool>, Short>
     requires runs { Runs (T.view tx.old).client of.now (T.view tx.old).seen }
     requires fits { KindFits (T.view tx.old).client.setting (kind.Read rec) }
@@ -138,11 +154,11 @@ pub(crate) fn need<T: Tx>(tx: &mut T, of: &Name, rec: u8, least: u64) -> Result<
 {
     match call(tx, of, &Managed::Read { rec })? {
         Called::Answered(given) => {
-            if value_in(&given) < least {
-                let again = ask(tx, of, 0)?;
-                return Ok(Some(again));
+            if is_enough(least, &given) {
+                return Ok(None);
             }
-            Ok(None)
+            let again = ask(tx, of, 0)?;
+            Ok(Some(again))
         }
         Called::Stopped { again } => Ok(Some(again)),
     }

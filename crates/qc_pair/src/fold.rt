@@ -10,7 +10,7 @@ ghost use Rattle.qc_journal.specs.declared.fault.Fault.TheVariants.{Full, Memory
 ghost use Rattle.qc_pair.specs.Folding.{HasNoRoom, IsFolding, IsFoldNo, IsFullFold};
 
 use crate::folding::fold;
-use qc_codec::{BaseRecord, FORMAT, Tuples, write_base};
+use qc_codec::{BaseRecord, Tuples, write_base};
 use qc_config::Tuple;
 use qc_disk::Disk;
 use qc_journal::{Body, Fault, Journal};
@@ -41,7 +41,7 @@ fn write(
         epoch,
         tuples: Tuples::new(tuples),
     };
-    let bytes = write_base(alloc, &base, copies, FORMAT)?;
+    let bytes = write_base(alloc, &base, copies)?;
     Ok(bytes)
 }
 

@@ -1,12 +1,13 @@
 -- What is printed of a run: a line for each end of a user transaction or a manager, then a line for each top
 -- in doubt, then the value of each record, then how many tops there were. What accesses and copies do prints
 -- nothing.
-use Rattle.std.specs.Prelude.{ℕ, ◌==◌, Bool, true, false, if◌then◌else◌, List, [], ◌∷◌, ◌++◌, length, map, filter, filter_map, reverse, count_by, codes, slice_get, slice_index_or, Option, None}
+use Rattle.std.specs.Prelude.{ℕ, ◌+◌, ◌/◌, ◌%◌, ◌==◌, ◌||◌, nat_lt, Bool, true, false, if◌then◌else◌, List, [], ◌∷◌, ◌++◌, length, map, filter, filter_map, reverse, count_by, codes, slice_get, slice_index_or, Option, None}
 use Rattle.std.specs.Fmt.{decimal}
 use Rattle.std.specs.List.{flat_map, list_any, zip}
 use Rattle.std.specs.Option.{option_map, option_map_or}
 use Rattle.qc_names.specs.Name as name
-use Rattle.qc_config.specs.Val.{Datum, Number}
+use Rattle.qc_config.specs.Val as val
+use Rattle.qc_config.specs.Val.{Datum}
 use Rattle.qc_config.specs.Copies.{has}
 use Rattle.qc_event.specs.declared.event.Answer.{Answer}
 use Rattle.qc_event.specs.declared.event.Answer.TheVariants.{Value, Generation}
@@ -40,9 +41,21 @@ Text = List ℕ
 abbrev pub record_name : Table → ℕ → Text
 record_name table rec = option_map_or (λ (r : Row). r.name) (slice_get table.records rec) []
 
--- a value, as a report has it
+-- a digit to the base 16
+abbrev pub digit : ℕ → ℕ
+digit n = if nat_lt n 10 then 48 + n else 87 + n
+
+-- a byte of a text between its quotes: behind a backslash where it is a quote or a backslash, by its number where it is
+-- a control, and else as it is
+abbrev pub quoted_byte : ℕ → Text
+quoted_byte b =
+    if b == 34 || b == 92 then 92 ∷ b ∷ []
+    else (if nat_lt b 32 then 92 ∷ codes "u00" ++ (digit (b / 16) ∷ digit (b % 16) ∷ []) else b ∷ [])
+
+-- a value, as a report has it: a number in digits, and a text between quotes
 abbrev pub value_text : Datum → Text
-value_text (Number n) = decimal n
+value_text (val.Number n) = decimal n
+value_text (val.Text bytes) = codes "\"" ++ (flat_map quoted_byte bytes ++ codes "\"")
 
 -- a read manager has committed with a value
 abbrev pub read_line : Table → Name → ℕ → Answer → Text

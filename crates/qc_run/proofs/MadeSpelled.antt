@@ -7,7 +7,7 @@ use Rattle.std.proofs.lemmas.Bool.{and_parts, leb-true}
 use Rattle.std.proofs.lemmas.List.Elements.{All-nil, All-cons}
 use Rattle.std.specs.Fmt.{digits}
 use Rattle.qc_config.specs.Val.{Number}
-use Rattle.qc_codec.proofs.Fits.{number_fits}
+use Rattle.qc_codec.proofs.Fits.{value_fits}
 use Rattle.qc_codec.specs.Bodies.{are_distinct, table}
 use Rattle.qc_codec.specs.Fields.{current_format, datum}
 use Rattle.qc_event.specs.declared.table.Row.{Row}
@@ -38,7 +38,7 @@ each_spelled (rec ∷ recs) all =
 
 each_small : (recs : List ℕ) → All (λ (r : Row). (datum current_format).fits r.start) (map made_row recs)
 each_small [] = All-nil (λ (r : Row). (datum current_format).fits r.start)
-each_small (rec ∷ recs) = All-cons (λ (r : Row). (datum current_format).fits r.start) (made_row rec) (map made_row recs) (number_fits current_format (Number 0) 0 refl (omega arith)) (each_small recs)
+each_small (rec ∷ recs) = All-cons (λ (r : Row). (datum current_format).fits r.start) (made_row rec) (map made_row recs) (value_fits (Number 0) (omega arith)) (each_small recs)
 
 labels : list_all (λ rec. is_label (made_row rec).name) (range_with_len 0 8) ≡ true
 unfolding is_label digits

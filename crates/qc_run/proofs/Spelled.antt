@@ -87,7 +87,7 @@ record IsSpelledRow (names : List Text) (row : Row) : Type 0 where
 
 row_spelled : (copies : ℕ) (names : List Text) (d : Data) → IfOk (row_of copies names d) (IsSpelledRow names)
 row_spelled copies names d =
-    then_ok _ _ _ λ _ _. then_ok _ _ _ λ name n. then_ok _ _ _ λ start _. then_ok _ _ _ λ value _. then_ok _ _ _ λ config c. record {
+    then_ok _ _ _ λ _ _. then_ok _ _ _ λ name n. then_ok _ _ _ λ given _. then_ok _ _ _ λ start _. then_ok _ _ _ λ value _. then_ok _ _ _ λ config c. record {
       name = IfOk-at_ok (IsNewLabel names) n (name_new names d);
       config = IfOk-at_ok IsFaultless c (faultless copies value);
     }
@@ -197,7 +197,7 @@ table_fits s proper spelled small =
     let few = proper.few_records in
     ((((omega arith, between 1 16 s.table.copies (omega arith) (omega arith)), (((omega arith, between 1 64 (length s.table.records) (omega arith) (omega arith)), (refl, rows_fit s.table.copies s.table.records few_copies proper.rows spelled.each_one small)), tt)), tt), spelled.distinct)
 
--- the table of the script that bytes are is spelled, where its start values are numbers of 64 bits
+-- the table of the script that bytes are is spelled, where its start values are
 pub spelled : (bytes : List ℕ) (s : ScriptPlan) → IsScript bytes s → IsProper s → All (λ (r : Row). (datum current_format).fits r.start) s.table.records → (table current_format).fits s.table
 spelled bytes s is proper small =
     table_fits s proper (subst (λ r. IfOk r (λ (p : ScriptPlan). AreSpelled p.table.records)) is.reads (script_spelled is.value)) small

@@ -9,19 +9,19 @@ ghost use Rattle.qc_script.specs.Steps.{plan_of_script};
 use qc_event::Row;
 use qc_script::Script;
 
-// The start value of a row is a number of 64 bits.
-fn is_long(row: &Row)
+// The start value of a row has a spelling.
+fn start_fits(row: &Row)
     ensures { (datum current_format).fits row.now.start }
 {
     let _start = row.start.as_number();
 }
 
-// So is each row's.
-fn are_long(rows: &[Row])
+// So has each row's.
+fn starts_fit(rows: &[Row])
     ensures { All (λ row. (datum current_format).fits row.start) rows.now }
 {
     for row in rows {
-        is_long(row);
+        start_fits(row);
     }
 }
 
@@ -31,7 +31,7 @@ pub(crate) fn is_spelled(script: &Script)
     ensures { (bytes : List ℕ) → IsScript bytes (plan_of_script script.now)
         → (body.table current_format).fits script.now.table }
 {
-    are_long(script.table.records.as_slice());
+    starts_fit(script.table.records.as_slice());
 }
 
 /// So has one that is made of a number. It does nothing else.
@@ -39,5 +39,5 @@ pub(crate) fn made_is_spelled(script: &Script)
     ensures { (n : ℕ) → plan_of_script script.now ≡ made_plan n
         → (body.table current_format).fits script.now.table }
 {
-    are_long(script.table.records.as_slice());
+    starts_fit(script.table.records.as_slice());
 }

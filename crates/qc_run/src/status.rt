@@ -187,6 +187,7 @@ fn member_word(member: Member) -> &'static str
         Member::Must => "must",
         Member::Steps => "steps",
         Member::Step => "step",
+        Member::Value => "value",
         Member::Levels => "levels",
         Member::Copy => "copy",
         Member::Branches => "branches",

@@ -1,6 +1,6 @@
 -- Bodies that are read are numbered on, so those of one row have different numbers.
-use Rattle.std.proofs.Common.{◌≡◌, ℕ, zero, suc, ◌+◌, ◌-◌, ◌*◌, ◌<◌, ◌≤◌, Bool, true, false, List, [], ◌∷◌, length, Ok, Err, refl, sym, ap, ◌∙◌, subst, arith}
-use Rattle.std.specs.Prelude.{◌==◌, nat_lt, IfOk, if◌then◌else◌, codes}
+use Rattle.std.proofs.Common.{◌≡◌, ℕ, zero, suc, ◌+◌, ◌-◌, ◌*◌, ◌<◌, ◌≤◌, Bool, true, false, List, [], ◌∷◌, length, Option, None, Some, Ok, Err, refl, sym, ap, ◌∙◌, subst, arith}
+use Rattle.std.specs.Prelude.{◌==◌, IfOk, if◌then◌else◌, codes}
 use Rattle.std.specs.List.{AllByRecursion, IsDistinct}
 use Rattle.std.proofs.lemmas.Bool.{ne_eqb}
 use Rattle.std.proofs.lemmas.Map.Keys.{IsDistinct-cons}
@@ -8,7 +8,7 @@ use Rattle.std.proofs.lemmas.Result.{IfOk-at_ok}
 use Rattle.serde_json.specs.Data.{Data}
 use Rattle.qc_event.specs.declared.event.Answer.TheVariants as answer
 use Rattle.qc_event.specs.declared.table.Table.{Table}
-use Rattle.qc_script.specs.Plan.{Plan, Numbered, SessionPlan, row_of, row_numbers, value_of}
+use Rattle.qc_script.specs.Plan.{Plan, Numbered, SessionPlan, is_enough, minus, number_in, plus, row_of, row_numbers, write_changed}
 use Rattle.qc_script.specs.BodyNumbers.{NumberedOn, SessionsNumberedOn}
 use Rattle.qc_script.specs.declared.bad_script.BadScript.TheVariants.{Shape}
 use Rattle.qc_script.specs.declared.bad_script.Member.TheVariants as part
@@ -85,8 +85,13 @@ list_numbered body next (d ∷ ds) on =
     let one = IfOk-at_ok (IsNumberedOn next) h (on next d) in
     (one.0, (b.1, one.1, IfOk-at_ok (AreNumberedOn b.1) hs (list_numbered body b.1 ds on)))
 
+-- whether there was a number or not
+pub changed_on : (next after rec : ℕ) (changed : ℕ → ℕ) (rest : Plan) (o : Option ℕ) → NumberedOn next after rest → NumberedOn next after (write_changed rec changed rest o)
+changed_on next after rec changed rest None h = h
+changed_on next after rec changed rest (Some n) h = λ done. h
+
 -- whether a value was enough or not
-either_on : (next after : ℕ) (rest : Plan) (less : Bool) → NumberedOn next after rest → NumberedOn next after (if less then Plan.abort_then 0 rest else rest)
+either_on : (next after : ℕ) (rest : Plan) (enough : Bool) → NumberedOn next after rest → NumberedOn next after (if enough then rest else Plan.abort_then 0 rest)
 either_on next after rest true h = h
 either_on next after rest false h = h
 
@@ -94,16 +99,16 @@ read_on : (table : Table) (next : ℕ) (rec : Data) → IfOk (read_of table next
 read_on table next rec = then_ok _ _ _ λ name _. then_ok _ _ _ λ i _ after rest h given. h
 
 set_on : (table : Table) (next : ℕ) (rec value : Data) → IfOk (set_of table next rec value) (KeepsOn next)
-set_on table next rec value = then_ok _ _ _ λ a _ after rest h given. h
+set_on table next rec value = then_ok _ _ _ λ name _. then_ok _ _ _ λ _ _. then_ok _ _ _ λ i _. then_ok _ _ _ λ v _ after rest h given. h
 
 add_on : (table : Table) (next : ℕ) (rec value : Data) → IfOk (add_of table next rec value) (KeepsOn next)
-add_on table next rec value = then_ok _ _ _ λ a _ after rest h given done. h
+add_on table next rec value = then_ok _ _ _ λ a _ after rest h given. changed_on next after a.0 (λ old. plus old a.1) rest (number_in given) h
 
 sub_on : (table : Table) (next : ℕ) (rec value : Data) → IfOk (sub_of table next rec value) (KeepsOn next)
-sub_on table next rec value = then_ok _ _ _ λ a _ after rest h given done. h
+sub_on table next rec value = then_ok _ _ _ λ a _ after rest h given. changed_on next after a.0 (λ old. minus old a.1) rest (number_in given) h
 
 need_on : (table : Table) (next : ℕ) (rec value : Data) → IfOk (need_of table next rec value) (KeepsOn next)
-need_on table next rec value = then_ok _ _ _ λ a _ after rest h given. either_on next after rest (nat_lt (value_of given) a.1) h
+need_on table next rec value = then_ok _ _ _ λ a _ after rest h given. either_on next after rest (is_enough a.1 given) h
 
 reconf_on : (table : Table) (next : ℕ) (rec config : Data) → IfOk (reconf_of table next rec config) (KeepsOn next)
 reconf_on table next rec config = then_ok _ _ _ λ name _. then_ok _ _ _ λ _ _. then_ok _ _ _ λ i _. then_ok _ _ _ λ c _ after rest h given. h

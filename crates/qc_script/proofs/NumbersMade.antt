@@ -5,10 +5,10 @@ use Rattle.std.specs.List.{IsDistinct, range_with_len}
 use Rattle.qc_event.specs.declared.event.Kind.{Kind}
 use Rattle.qc_event.specs.declared.event.Kind.TheVariants as kind
 use Rattle.qc_script.specs.BodyNumbers.{NumberedOn, SessionsNumberedOn}
-use Rattle.qc_script.specs.MadePlan.{Front, two_each, record_at, at_once, number_at, only_where, adding_at, reading_at, reads, runs, runs_at_once, children_at, steps_at, top_at, made_session}
-use Rattle.qc_script.specs.Plan.{Plan, manage_then, row_of, row_numbers}
+use Rattle.qc_script.specs.MadePlan.{Front, two_each, record_at, amount_at, at_once, number_at, only_where, adding_at, reading_at, reads, runs, runs_at_once, children_at, steps_at, top_at, made_session}
+use Rattle.qc_script.specs.Plan.{Plan, manage_then, number_in, plus, row_of, row_numbers}
 use Rattle.qc_script.specs.Steps.{all_before}
-use Rattle.qc_script.proofs.Numbering.{row_distinct}
+use Rattle.qc_script.proofs.Numbering.{changed_on, row_distinct}
 
 -- STEPS IN FRONT OF A PLAN
 
@@ -48,13 +48,16 @@ manage_on k next last rest h = λ given. h
 
 -- TOPS
 
+adding_on : (n i : ℕ) → NumberedOn (number_at i + 1 + 1) (number_at i + 2) (adding_at n i).plan
+adding_on n i given = changed_on (number_at i + 1 + 1) (number_at i + 2) (record_at i) (λ old. plus old (amount_at n i)) Plan.done (number_in given) (omega arith)
+
 row_on : (n i : ℕ) → NumberedOn (number_at i + 1) (number_at i + 3) (row_of (adding_at n i ∷ reading_at i ∷ []))
-row_on n i = (refl, (number_at i + 2, (λ given done. omega arith), (refl, (number_at i + 3, (λ given. omega arith), refl))))
+row_on n i = (refl, (number_at i + 2, adding_on n i, (refl, (number_at i + 3, (λ given. omega arith), refl))))
 
 children_on : (n i : ℕ) (b : Bool) (last : ℕ) (rest : Plan) → NumberedOn (number_at i + (if b then 3 else 2)) last rest
     → NumberedOn (number_at i + 1) last ((if b then runs_at_once (adding_at n i ∷ reading_at i ∷ []) else runs (adding_at n i)) rest)
 children_on n i true last rest h = (number_at i + 3, row_on n i, h)
-children_on n i false last rest h = (refl, (number_at i + 2, (λ given done. omega arith), h))
+children_on n i false last rest h = (refl, (number_at i + 2, adding_on n i, h))
 
 -- those that run at once have different numbers
 pub branches_differ : (n i : ℕ) → IsDistinct ◌==◌ (row_numbers (row_of (adding_at n i ∷ reading_at i ∷ [])))

@@ -1,7 +1,7 @@
 -- Parts of a script that are read are proper: numbers are within their limits, records have legal configurations, and
 -- steps are about these records.
 use Rattle.std.proofs.Common.{◌≡◌, ℕ, zero, suc, ◌+◌, ◌-◌, ◌*◌, ◌<◌, ◌≤◌, Bool, true, false, List, [], ◌∷◌, ◌++◌, length, Option, Some, None, Ok, Err, refl, ap, ◌∙◌, subst, arith}
-use Rattle.std.specs.Prelude.{◌&&◌, nat_lt, nat_le, IfOk, IfSome, ok_or, if◌then◌else◌, codes}
+use Rattle.std.specs.Prelude.{◌&&◌, nat_le, IfOk, IfSome, ok_or, if◌then◌else◌, codes}
 use Rattle.std.specs.List.{AllByRecursion, position}
 use Rattle.std.specs.Str.{bytes_eq}
 use Rattle.std.proofs.lemmas.Bool.{eqb-true, leb-true, ltb-true, and_parts}
@@ -16,7 +16,7 @@ use Rattle.qc_config.specs.Config.{fault}
 use Rattle.qc_config.specs.declared.config.BadConfig.{BadConfig}
 use Rattle.qc_event.specs.declared.table.Row.{Row}
 use Rattle.qc_event.specs.declared.table.Table.{Table}
-use Rattle.qc_script.specs.Plan.{Plan, Numbered, IsTried, PlanWithin, TopsWithin, value_of, row_of as row_of_bodies}
+use Rattle.qc_script.specs.Plan.{Plan, Numbered, IsTried, PlanWithin, TopsWithin, is_enough, minus, number_in, plus, write_changed, row_of as row_of_bodies}
 use Rattle.qc_script.specs.declared.bad_script.BadScript.{BadScript}
 use Rattle.qc_script.specs.declared.bad_script.BadScript.TheVariants.{Shape, Config, Unknown}
 use Rattle.qc_script.specs.declared.bad_script.Member.{Member}
@@ -74,7 +74,7 @@ config_proper copies d =
 
 row_proper : (copies : ℕ) (names : List Text) (d : Data) → IfOk (row_of copies names d) (IsProperRow copies)
 row_proper copies names d =
-    then_ok _ _ _ λ _ _. then_ok _ _ _ λ name _. then_ok _ _ _ λ start _. then_ok _ _ _ λ value _. then_ok _ _ _ λ config h.
+    then_ok _ _ _ λ _ _. then_ok _ _ _ λ name _. then_ok _ _ _ λ given _. then_ok _ _ _ λ start _. then_ok _ _ _ λ value _. then_ok _ _ _ λ config h.
     let proper = IfOk-at_ok (IsConfigFor copies) h (config_proper copies value) in
     record { legal = proper.legal; for_copies = proper.for_copies }
 
@@ -133,30 +133,36 @@ amount_within table rec value =
     then_ok _ _ _ λ name _. then_ok _ _ _ λ n _. then_ok _ _ _ λ i h. IfOk-at_ok (λ k. k < length table.records) h (number_within table name)
 
 set_within : (table : Table) (depth next : ℕ) (rec value : Data) → IfOk (set_of table next rec value) (KeepsWithin table depth)
-set_within table depth next rec value = then_ok _ _ _ λ a h some rest within. (IfOk-at_ok (IsAmount table) h (amount_within table rec value), λ given. within)
+set_within table depth next rec value =
+    then_ok _ _ _ λ name _. then_ok _ _ _ λ _ _. then_ok _ _ _ λ i h. then_ok _ _ _ λ v _ some rest within. (IfOk-at_ok (λ k. k < length table.records) h (number_within table name), λ given. within)
+
+-- whether there was a number or not
+pub changed_within : (copies records depth rec : ℕ) (changed : ℕ → ℕ) (rest : Plan) (o : Option ℕ) → 0 < depth → rec < records → PlanWithin copies records depth rest → PlanWithin copies records depth (write_changed rec changed rest o)
+changed_within copies records depth rec changed rest None some there within = (some, within)
+changed_within copies records depth rec changed rest (Some n) some there within = (there, λ done. within)
 
 add_within : (table : Table) (depth next : ℕ) (rec value : Data) → IfOk (add_of table next rec value) (KeepsWithin table depth)
 add_within table depth next rec value =
     then_ok _ _ _ λ a h some rest within.
     let there = IfOk-at_ok (IsAmount table) h (amount_within table rec value) in
-    (there, λ given. (there, λ done. within))
+    (there, λ given. changed_within table.copies (length table.records) depth a.0 (λ old. plus old a.1) rest (number_in given) some there within)
 
 sub_within : (table : Table) (depth next : ℕ) (rec value : Data) → IfOk (sub_of table next rec value) (KeepsWithin table depth)
 sub_within table depth next rec value =
     then_ok _ _ _ λ a h some rest within.
     let there = IfOk-at_ok (IsAmount table) h (amount_within table rec value) in
-    (there, λ given. (there, λ done. within))
+    (there, λ given. changed_within table.copies (length table.records) depth a.0 (λ old. minus old a.1) rest (number_in given) some there within)
 
 -- whether the value was enough or not
-either_within : (table : Table) (depth : ℕ) (rest : Plan) (less : Bool) → 0 < depth → Within table depth rest → Within table depth (if less then Plan.abort_then 0 rest else rest)
-either_within table depth rest true some within = (some, within)
-either_within table depth rest false some within = within
+either_within : (table : Table) (depth : ℕ) (rest : Plan) (enough : Bool) → 0 < depth → Within table depth rest → Within table depth (if enough then rest else Plan.abort_then 0 rest)
+either_within table depth rest true some within = within
+either_within table depth rest false some within = (some, within)
 
 need_within : (table : Table) (depth next : ℕ) (rec value : Data) → IfOk (need_of table next rec value) (KeepsWithin table depth)
 need_within table depth next rec value =
     then_ok _ _ _ λ a h some rest within. (
       IfOk-at_ok (IsAmount table) h (amount_within table rec value),
-      λ given. either_within table depth rest (nat_lt (value_of given) a.1) some within,
+      λ given. either_within table depth rest (is_enough a.1 given) some within,
     )
 
 reconf_within : (table : Table) (depth next : ℕ) (rec config : Data) → IfOk (reconf_of table next rec config) (KeepsWithin table depth)

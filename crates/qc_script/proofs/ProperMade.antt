@@ -5,10 +5,11 @@ use Rattle.std.specs.List.{AllByRecursion, range_with_len}
 use Rattle.qc_config.proofs.Faults.{legal_unless_fault}
 use Rattle.qc_event.specs.Base.{IsConfigFor}
 use Rattle.qc_event.specs.declared.event.Kind.TheVariants as kind
-use Rattle.qc_script.specs.MadePlan.{Front, one_each, two_each, made_row, record_at, at_once, only_where, reads, children_at, adding_at, reading_at, runs, runs_at_once, steps_at, top_at, made_session, made_plan}
-use Rattle.qc_script.specs.Plan.{Plan, manage_then, PlanWithin, TopsWithin, SessionWithin, SessionsWithin}
+use Rattle.qc_script.specs.MadePlan.{Front, one_each, two_each, made_row, record_at, amount_at, at_once, only_where, reads, children_at, adding_at, reading_at, runs, runs_at_once, steps_at, top_at, made_session, made_plan}
+use Rattle.qc_script.specs.Plan.{Plan, manage_then, number_in, plus, PlanWithin, TopsWithin, SessionWithin, SessionsWithin}
 use Rattle.qc_script.specs.Reading.{IsProper, IsProperRow}
 use Rattle.qc_script.specs.Steps.{all_before}
+use Rattle.qc_script.proofs.Proper.{changed_within}
 use Rattle.qc_script.proofs.NumbersMade.{branches_differ, sessions_number}
 
 -- RECORDS
@@ -51,16 +52,19 @@ where_keeps false step keeps = tt
 is_record : (i : ℕ) → record_at i < 8
 is_record i = omega arith
 
+adding_within : (n i : ℕ) → PlanWithin 5 8 2 (adding_at n i).plan
+adding_within n i = (is_record i, λ given. changed_within 5 8 2 (record_at i) (λ old. plus old (amount_at n i)) Plan.done (number_in given) (omega arith) (is_record i) tt)
+
 children_keep : (n i : ℕ) (b : Bool) → Keeps (if b then runs_at_once (adding_at n i ∷ reading_at i ∷ []) else runs (adding_at n i))
 children_keep n i true = λ rest within. (
   tt,
   omega arith,
   omega arith,
-  (omega arith, (omega arith, omega arith), (is_record i, λ _. (is_record i, λ _. tt)), (omega arith, (omega arith, omega arith), (is_record (i + 1), λ _. tt), tt)),
+  (omega arith, (omega arith, omega arith), adding_within n i, (omega arith, (omega arith, omega arith), (is_record (i + 1), λ _. tt), tt)),
   within,
   branches_differ n i,
 )
-children_keep n i false = λ rest within. (omega arith, (omega arith, omega arith), (is_record i, λ _. (is_record i, λ _. tt)), within)
+children_keep n i false = λ rest within. (omega arith, (omega arith, omega arith), adding_within n i, within)
 
 crash_keeps : Keeps (Plan.crash_then 2)
 crash_keeps rest within = (omega arith, within)

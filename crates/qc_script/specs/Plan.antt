@@ -1,5 +1,5 @@
 -- What a body does: its steps one after another; and what sessions and a script are.
-use Rattle.std.specs.Prelude.{ℕ, Bool, ◌+◌, ◌-◌, ◌%◌, ◌^◌, ◌<◌, ◌≤◌, ◌==◌, nat_lt, if◌then◌else◌, List, [], ◌∷◌, length}
+use Rattle.std.specs.Prelude.{ℕ, Bool, false, ◌+◌, ◌-◌, ◌%◌, ◌^◌, ◌<◌, ◌≤◌, ◌==◌, nat_le, if◌then◌else◌, List, [], ◌∷◌, length, Option, None, Some}
 use Rattle.std.specs.List.{AllByRecursion, IsDistinct}
 use Rattle.qc_config.specs.Val.{Number, number_of}
 use Rattle.qc_event.specs.declared.event.Answer.{Answer}
@@ -27,25 +27,34 @@ pub data Plan : Type 0 where
 abbrev pub manage_then : Kind → Plan → Plan
 manage_then k rest = Plan.manage_by k (λ given. rest)
 
--- the number that a read answered; no read answers anything else
-abbrev pub value_of : Answer → ℕ
-value_of (answer.Value value) = number_of value
-value_of _ = 0
+-- the number that a read answered; none where it answered a text
+abbrev pub number_in : Answer → Option ℕ
+number_in (answer.Value value) = number_of value
+number_in _ = None
 
--- values are numbers modulo 2 ^ 64
+-- numbers are changed modulo 2 ^ 64
 abbrev pub plus : ℕ → ℕ → ℕ
 plus value n = (value + n) % 2 ^ 64
 
 abbrev pub minus : ℕ → ℕ → ℕ
 minus value n = (value + (2 ^ 64 - n)) % 2 ^ 64
 
--- a record is read, and its value is written as it is then changed
-abbrev pub change_then : ℕ → (ℕ → ℕ) → Plan → Plan
-change_then rec changed rest = Plan.manage_by (kind.Read rec) (λ given. manage_then (kind.Write rec (Number (changed (value_of given)))) rest)
+-- a number is written as it is then changed; where there is none, the transaction aborts itself
+abbrev pub write_changed : ℕ → (ℕ → ℕ) → Plan → Option ℕ → Plan
+write_changed rec changed rest None = Plan.abort_then 0 rest
+write_changed rec changed rest (Some n) = manage_then (kind.Write rec (Number (changed n))) rest
 
--- a record is read, and the transaction aborts itself where the value is less than this
+-- a record is read, and its number is written changed; where it has a text, the transaction aborts itself
+abbrev pub change_then : ℕ → (ℕ → ℕ) → Plan → Plan
+change_then rec changed rest = Plan.manage_by (kind.Read rec) (λ given. write_changed rec changed rest (number_in given))
+
+-- whether a read answered a number that is at least this one
+abbrev pub is_enough : ℕ → Answer → Bool
+is_enough least given = elim (number_in given) [ None ↦ false | Some n ↦ nat_le least n ]
+
+-- a record is read, and the transaction aborts itself where that is not enough
 abbrev pub need_then : ℕ → ℕ → Plan → Plan
-need_then rec least rest = Plan.manage_by (kind.Read rec) (λ given. if nat_lt (value_of given) least then Plan.abort_then 0 rest else rest)
+need_then rec least rest = Plan.manage_by (kind.Read rec) (λ given. if is_enough least given then rest else Plan.abort_then 0 rest)
 
 -- A body: its number, how often it is tried at most, whether it must commit as a child, and its plan.
 pub record Numbered : Type 0 where

@@ -1,5 +1,5 @@
 -- What a script is, as a function on a JSON value: its parts from outside in, and the first refusal.
-use Rattle.std.specs.Prelude.{ℕ, ◌+◌, ◌-◌, ◌*◌, ◌==◌, Bool, false, not, nat_lt, if◌then◌else◌, List, [], ◌∷◌, ◌++◌, length, map, codes, None, Some, is_some, ok_or, Ok, Err}
+use Rattle.std.specs.Prelude.{ℕ, ◌+◌, ◌-◌, ◌*◌, ◌==◌, ◌||◌, Bool, false, not, nat_lt, if◌then◌else◌, List, [], ◌∷◌, ◌++◌, length, map, codes, None, Some, is_some, ok_or, Ok, Err}
 use Rattle.std.proofs.Common.{zero, suc}
 use Rattle.std.specs.Char.{is_ascii_alphanumeric}
 use Rattle.std.specs.List.{list_all, list_any, position}
@@ -7,7 +7,8 @@ use Rattle.std.specs.Result.{is_ok}
 use Rattle.std.specs.Str.{bytes_eq}
 use Rattle.serde_json.specs.Data.{Data}
 use Rattle.serde_json.specs.Find.{as_str, as_object, as_bool}
-use Rattle.qc_config.specs.Val.{Number}
+use Rattle.qc_config.specs.Val.{Datum, longest}
+use Rattle.qc_config.specs.Val as val
 use Rattle.qc_event.specs.declared.event.Kind.TheVariants as kind
 use Rattle.qc_config.specs.Config.{Voting, fault}
 use Rattle.qc_event.specs.declared.table.Row.{Row}
@@ -15,6 +16,7 @@ use Rattle.qc_event.specs.declared.table.Table.{Table}
 use Rattle.qc_net.specs.declared.link.Fate.{Fate}
 use Rattle.qc_net.specs.declared.link.Fate.TheVariants.{Deliver, LoseAsk, LoseReply, Hold, Twice as TwoTimes}
 use Rattle.qc_script.specs.declared.bad_script.BadScript.TheVariants.{Shape, Limit, Config, Unknown, Twice}
+use Rattle.qc_script.specs.declared.bad_script.Member.{Member}
 use Rattle.qc_script.specs.declared.bad_script.Member.TheVariants as part
 use Rattle.qc_script.specs.Plan.{Plan, Numbered, SessionPlan, ScriptPlan, manage_then, change_then, need_then, plus, minus, row_of as row_of_bodies}
 use Rattle.qc_script.specs.JsonText.{Text, Read, ◌>>=◌, must, each, object_of, list_of, digits_of, member_at, number_at, text_at, list_at, within, limited, member_or}
@@ -59,15 +61,31 @@ config_of copies d = do
   write ← number_at (codes "write") part.Write d
   configured votes read write
 
+-- a number in digits, or a text
+abbrev pub is_value : Data → Bool
+is_value d = is_some (digits_of d) || is_some (as_str d)
+
+-- a text that is not too long; the words are for another type, and for a text that is longer
+abbrev pub text_of : Member → Member → Data → Read Datum
+text_of word long d = do
+  text ← ok_or (as_str d) (Shape word)
+  _ ← within long 0 longest (length text)
+  Ok (val.Text text)
+
+-- a value: a number in digits, or such a text
+abbrev pub value_of : Member → Member → Data → Read Datum
+value_of word long d = elim (digits_of d) [ None ↦ text_of word long d | Some n ↦ Ok (val.Number n) ]
+
 -- a record, behind those of these names
 abbrev pub row_of : ℕ → List Text → Data → Read Row
 row_of copies names d = do
   _ ← object_of part.RecordRow (codes "name" ∷ codes "start" ∷ codes "config" ∷ []) [] d
   name ← name_of names d
-  start ← number_at (codes "start") part.Start d
+  start ← member_at (codes "start") part.Start d
+  start ← value_of part.Start part.Start start
   config ← member_at (codes "config") part.Config d
   config ← config_of copies config
-  Ok (record { name = name; start = Number start; config = config })
+  Ok (record { name = name; start = start; config = config })
 
 -- the rows, and one more for each of the elements
 abbrev pub rows_of : ℕ → List Row → List Data → Read (List Row)
@@ -161,9 +179,14 @@ amount_of table rec value = do
   i ← number_of table name
   Ok (i, n)
 
--- ["set", R, n]
+-- ["set", R, v]
 abbrev pub set_of : Table → ℕ → Data → Data → Counted Front
-set_of table next rec value = amount_of table rec value >>= λ a. Ok (manage_then (kind.Write a.0 (Number a.1)), next)
+set_of table next rec value = do
+  name ← step_name rec
+  _ ← must (is_value value) (Shape part.Step)
+  i ← number_of table name
+  v ← value_of part.Step part.Value value
+  Ok (manage_then (kind.Write i v), next)
 
 -- ["add", R, n]
 abbrev pub add_of : Table → ℕ → Data → Data → Counted Front

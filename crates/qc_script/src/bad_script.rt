@@ -53,6 +53,8 @@ pub enum Member {
     Steps,
     #[error("step")]
     Step,
+    #[error("value")]
+    Value,
     #[error("levels")]
     Levels,
     #[error("copy")]

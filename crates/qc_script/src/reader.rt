@@ -14,6 +14,7 @@ mod rows;
 mod scope;
 mod session;
 mod steps;
+mod values;
 
 use crate::bad_script::{BadScript, Member};
 use crate::script::{Script, Session};

@@ -1,5 +1,6 @@
 //! Scripts.
-use qc_event::{Config, Table, Val};
+use qc_config::OwnVal;
+use qc_event::{Config, Table};
 use qc_net::Fate;
 
 /// One step of a body.
@@ -9,12 +10,14 @@ pub enum Step {
     /// Reads a record.
     Read { rec: u8 },
     /// Writes a value to a record.
-    Set { rec: u8, value: Val },
-    /// Reads a record, and writes its value plus this one, modulo `2^64`.
+    Set { rec: u8, value: OwnVal },
+    /// Reads a record, and writes its number plus this one, modulo `2^64`. Where it has a text, the transaction is
+    /// aborted by itself.
     Add { rec: u8, value: u64 },
-    /// Reads a record, and writes its value minus this one, modulo `2^64`.
+    /// Reads a record, and writes its number minus this one, modulo `2^64`. Where it has a text, the transaction is
+    /// aborted by itself.
     Sub { rec: u8, value: u64 },
-    /// Reads a record, and aborts the transaction itself where its value is less than this one.
+    /// Reads a record, and aborts the transaction itself where it has a text, or a number that is less than this one.
     Need { rec: u8, value: u64 },
     /// Gives a record another configuration.
     Reconf { rec: u8, config: Config },

@@ -82,7 +82,7 @@ module _ (copies : ℕ) where
 
     grant_fit : (g : Grant) → form.fits g → GrantFit g
     unfolding body.grant body.granted
-    grant_fit g fits = (tuple_renewed copies format current_format g.tuple fits.0.1.1.1, fits.1)
+    grant_fit g fits = (tuple_renewed copies format g.tuple fits.0.1.1.1, fits.1)
 
     read_fit : (bodies : List (List ℕ)) → All Bytes bodies → All GrantFit (readings form bodies)
     read_fit [] bytes = All-nil GrantFit
@@ -113,7 +113,7 @@ module _ (table : Table) where
 
   base_fit : (format : ℕ) (b : BaseRecord) → (body.base (layout table.copies format) (length table.records)).fits b → AreFit b.tuples
   unfolding body.base body.folded
-  base_fit format b fits = (fits.0.1.1.0, λ k d lt. tuple_renewed table.copies format current_format _ (fits.0.1.1.1 k d lt))
+  base_fit format b fits = (fits.0.1.1.0, λ k d lt. tuple_renewed table.copies format _ (fits.0.1.1.1 k d lt))
 
   module _ (disk : ℕ) (proper : (body.table current_format).fits table) where
     begin_fit : (found : List (List ℕ)) → AreBytes found → AreMadeFor disk table found → AreFit (tuples_of_base table (base_in copy_base found))

@@ -52,7 +52,7 @@ pub(crate) fn known_to_fit<N: Store>(pass: &Pass<N>, copies: u8, ask: &Ask, tupl
     config_in_range(&tuple.config);
     let _rec = ask.rec;
     let (_version, _generation) = (tuple.version, tuple.generation);
-    let _number = tuple.value.as_number();
+    let _value = tuple.value.as_number();
 }
 
 /// What a copy holds of each record, by what a pass has seen, fits the form in which a base has it. This reads each tuple,
@@ -66,6 +66,6 @@ pub(crate) fn held_to_fit<N: Store>(pass: &Pass<N>, copy: u8, held: &[Tuple])
     for tuple in held {
         config_in_range(&tuple.config);
         let (_version, _generation) = (tuple.version, tuple.generation);
-        let _number = tuple.value.as_number();
+        let _value = tuple.value.as_number();
     }
 }

@@ -10,7 +10,7 @@ ghost use Rattle.qc_ledger.specs.Shelf.{EndsWithin};
 ghost use Rattle.qc_site.specs.Back.{grant_body, IsAnswer, IsPlain};
 
 use crate::back::{BackNo, read_back};
-use qc_codec::{FORMAT, write_grant};
+use qc_codec::write_grant;
 use qc_disk::Disk;
 use qc_event::Grant;
 use qc_journal::{Fault, Journal};
@@ -87,7 +87,7 @@ impl<D: Disk> GrantLog<D> {
         ensures counts_once { CostsOnce (log_journal self.old) (log_journal self.new)
             (IsErrOf result Fault.Disk) }
     {
-        let bytes = write_grant(self.alloc, grant, self.copies, FORMAT)?;
+        let bytes = write_grant(self.alloc, grant, self.copies)?;
         self.journal.append(&bytes)
     }
 

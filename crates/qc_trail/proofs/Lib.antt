@@ -1,2 +1,3 @@
 mod Growing
 pub mod Within
+mod Seldom

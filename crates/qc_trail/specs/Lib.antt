@@ -1,1 +1,2 @@
+pub mod Rare
 pub mod Told

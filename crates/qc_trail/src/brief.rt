@@ -1,9 +1,34 @@
 //! Entries in brief.
 
-use qc_event::Val;
+use qc_event::Config;
 
-/// What an entry is, in brief: its name and its tuple stand in lists of their own, and so does what is seldom; here are
-/// their places there.
+/// A tuple in brief: its text, where it has one, stands in a list of its own, and here is its place.
+#[derive(Clone, Copy, Debug)]
+pub enum BriefTuple {
+    Number {
+        version: u64,
+        number: u64,
+        generation: u64,
+        config: Config,
+    },
+    Text {
+        version: u64,
+        text: u32,
+        generation: u64,
+        config: Config,
+    },
+}
+
+/// An operation that was granted, in brief: what it puts is what the tuple at a place has.
+#[derive(Clone, Copy, Debug)]
+pub enum BriefOp {
+    Get,
+    PutData { of: u32 },
+    PutConfig { of: u32 },
+}
+
+/// What an entry is, in brief: its name, its tuple and its text stand in lists of their own, and so does what is
+/// seldom; here are their places there.
 #[derive(Clone, Copy, Debug)]
 pub enum Brief {
     StartUser {
@@ -15,10 +40,15 @@ pub enum Brief {
         name: u32,
         rec: u8,
     },
-    StartWrite {
+    StartNumber {
         name: u32,
         rec: u8,
-        value: Val,
+        number: u64,
+    },
+    StartText {
+        name: u32,
+        rec: u8,
+        text: u32,
     },
     StartAccess {
         name: u32,
@@ -28,23 +58,25 @@ pub enum Brief {
         copy: u8,
         rec: u8,
     },
-    AskPut {
+    AskNumber {
         access: u32,
         copy: u8,
         rec: u8,
         version: u64,
-        value: Val,
+        number: u64,
     },
-    GrantGet {
+    AskText {
         access: u32,
         copy: u8,
         rec: u8,
-        tuple: u32,
+        version: u64,
+        text: u32,
     },
-    GrantPut {
+    Grant {
         access: u32,
         copy: u8,
         rec: u8,
+        op: BriefOp,
         tuple: u32,
     },
     Ready {
@@ -53,15 +85,19 @@ pub enum Brief {
     Commit {
         name: u32,
     },
-    CommitValue {
+    CommitNumber {
         name: u32,
-        value: Val,
+        number: u64,
+    },
+    CommitText {
+        name: u32,
+        text: u32,
     },
     CommitReply {
         name: u32,
         tuple: u32,
     },
-    Other {
+    Rare {
         at: u32,
     },
 }

@@ -1,8 +1,12 @@
-//! Trails: the entries of a history, the oldest first, in a third of the memory that a vector of them takes.
+//! Trails: the entries of a history, the oldest first, in a small part of the memory that a vector of them takes.
 #![tactic(auto)]
 
+mod appending;
 mod brief;
+mod keeping;
 mod lists;
+mod places;
+mod rares;
 mod trail;
 
 pub use trail::Trail;

@@ -1,34 +1,20 @@
 //! The lists that stand beside entries in brief.
-ghost use Rattle.std.specs.Prelude.{◌≡◌, ◌<◌, ◌-◌, length, IfOk, IsTrue, Some, slice_get};
-ghost use Rattle.qc_event.specs.declared.event.Event.TheVariants as event_is;
-ghost use Rattle.qc_event.specs.declared.event.How.TheVariants.{Commit};
-ghost use Rattle.qc_trail.specs.Told.{Apart, GoesOn, GrowsTo, IsWithin, MayTell, Tells, event_told, name_at, nothing_apart, other_at, tuple_at};
+ghost use Rattle.std.specs.Prelude.{◌≡◌, ◌<◌, length};
+ghost use Rattle.qc_trail.specs.Told.{HasOp, HasText, HasTuple, IsWithin, event_told, name_at, nothing_apart, op_told, put_told, text_at, tuple_at, tuple_told};
 
-use crate::brief::Brief;
-use qc_event::{Answer, Ask, Event, Grant, How, Kind, Name, Op, Tuple};
-use qc_names::lists;
-use std::alloc::{AllocError, Global};
+use crate::brief::{Brief, BriefOp, BriefTuple};
+use crate::rares::Rares;
+use qc_event::{Answer, Ask, Event, Grant, How, Kind, Label, Name, Op, Tuple, Val};
+use std::alloc::Global;
 use std::marker::Model;
 
-// Adds an item at the end, and tells its place.
-fn append<T: Copy>(items: &mut Vec<T>, item: T) -> Result<u32, AllocError>
-    ensures grows { GoesOn items.old.items items.new.items }
-    ensures within { IfOk result (λ at. at < length items.new.items) }
-    ensures there { IfOk result (λ at. slice_get items.new.items at ≡ Some item) }
-{
-    let Ok(at) = u32::try_from(items.len()) else {
-        return Err(AllocError);
-    };
-    lists::append(items, item)?;
-    Ok(at)
-}
-
-/// The names, the tuples and the events that stand apart from their entries.
+/// The names, the tuples, the texts and what is seldom, which stand apart from their entries.
 #[derive(Debug, Drop)]
 pub struct Lists {
-    names: Vec<Name>,
-    tuples: Vec<Tuple>,
-    others: Vec<Event>,
+    pub(crate) names: Vec<Name>,
+    pub(crate) tuples: Vec<BriefTuple>,
+    pub(crate) texts: Vec<Label>,
+    pub(crate) rares: Rares,
 }
 
 impl Model for Lists {
@@ -39,7 +25,8 @@ impl Model for Lists {
     ghost view = { λ l. record {
       names = l.names.items;
       tuples = l.tuples.items;
-      others = l.others.items;
+      texts = l.texts.items;
+      rares = l.rares;
     } };
 }
 
@@ -51,7 +38,8 @@ impl Lists {
         Lists {
             names: Vec::new(alloc),
             tuples: Vec::new(alloc),
-            others: Vec::new(alloc),
+            texts: Vec::new(alloc),
+            rares: Rares::new(alloc),
         }
     }
 
@@ -62,18 +50,88 @@ impl Lists {
         self.names[at as usize]
     }
 
-    fn tuple(&self, at: u32) -> Tuple
-        requires { at < length self.now.tuples }
-        ensures { result ≡ tuple_at self.now at }
+    fn text(&self, at: u32) -> Val
+        requires { at < length self.now.texts }
+        ensures { result ≡ text_at self.now at }
     {
-        self.tuples[at as usize]
+        Val::text(self.texts[at as usize].as_bytes()).unwrap_or(Val::number(0))
     }
 
-    fn other(&self, at: u32) -> Event
-        requires { at < length self.now.others }
-        ensures { result ≡ other_at self.now at }
+    // The tuple that one in brief tells.
+    fn tuple_of(&self, brief: &BriefTuple) -> Tuple
+        requires { HasText self.now brief.now }
+        ensures { result ≡ tuple_told self.now brief.now }
     {
-        self.others[at as usize]
+        match brief {
+            BriefTuple::Number {
+                version,
+                number,
+                generation,
+                config,
+            } => Tuple {
+                version: *version,
+                value: Val::number(*number),
+                generation: *generation,
+                config: *config,
+            },
+            BriefTuple::Text {
+                version,
+                text,
+                generation,
+                config,
+            } => Tuple {
+                version: *version,
+                value: self.text(*text),
+                generation: *generation,
+                config: *config,
+            },
+        }
+    }
+
+    fn tuple(&self, at: u32) -> Tuple
+        requires { HasTuple self.now at }
+        ensures { result ≡ tuple_at self.now at }
+    {
+        self.tuple_of(&self.tuples[at as usize])
+    }
+
+    // The put that leaves a version and a value as the tuple in brief has.
+    fn put_of(&self, brief: &BriefTuple) -> Op
+        requires { HasText self.now brief.now }
+        ensures { result ≡ put_told (tuple_told self.now brief.now) }
+    {
+        match brief {
+            BriefTuple::Number {
+                version,
+                number,
+                ..
+            } => Op::PutData {
+                version: *version,
+                value: Val::number(*number),
+            },
+            BriefTuple::Text { version, text, .. } => Op::PutData {
+                version: *version,
+                value: self.text(*text),
+            },
+        }
+    }
+
+    // The operation that one in brief tells.
+    fn op(&self, brief: &BriefOp) -> Op
+        requires { HasOp self.now brief.now }
+        ensures { result ≡ op_told self.now brief.now }
+    {
+        match brief {
+            BriefOp::Get => Op::Get,
+            BriefOp::PutData { of } => self.put_of(&self.tuples[*of as usize]),
+            BriefOp::PutConfig { of } => {
+                let tuple = self.tuple(*of);
+                Op::PutConfig {
+                    generation: tuple.generation,
+                    config: tuple.config,
+                }
+            }
+        }
     }
 
     /// What an event in brief tells.
@@ -81,305 +139,111 @@ impl Lists {
         requires { IsWithin self.now brief.now }
         ensures { result ≡ event_told self.now brief.now }
     {
-        match *brief {
+        match brief {
             Brief::StartUser {
                 name,
                 session,
                 body,
             } => Event::Start {
-                name: self.name(name),
-                kind: Kind::User { session, body },
+                name: self.name(*name),
+                kind: Kind::User {
+                    session: *session,
+                    body: *body,
+                },
             },
             Brief::StartRead { name, rec } => Event::Start {
-                name: self.name(name),
-                kind: Kind::Read { rec },
+                name: self.name(*name),
+                kind: Kind::Read { rec: *rec },
             },
-            Brief::StartWrite { name, rec, value } => Event::Start {
-                name: self.name(name),
-                kind: Kind::Write { rec, value },
+            Brief::StartNumber { name, rec, number } => Event::Start {
+                name: self.name(*name),
+                kind: Kind::Write {
+                    rec: *rec,
+                    value: Val::number(*number),
+                },
+            },
+            Brief::StartText { name, rec, text } => Event::Start {
+                name: self.name(*name),
+                kind: Kind::Write {
+                    rec: *rec,
+                    value: self.text(*text),
+                },
             },
             Brief::StartAccess { name } => Event::Start {
-                name: self.name(name),
+                name: self.name(*name),
                 kind: Kind::Access,
             },
             Brief::AskGet { access, copy, rec } => Event::Ask(Ask {
-                access: self.name(access),
-                copy,
-                rec,
+                access: self.name(*access),
+                copy: *copy,
+                rec: *rec,
                 op: Op::Get,
             }),
-            Brief::AskPut {
+            Brief::AskNumber {
                 access,
                 copy,
                 rec,
                 version,
-                value,
+                number,
             } => Event::Ask(Ask {
-                access: self.name(access),
-                copy,
-                rec,
-                op: Op::PutData { version, value },
+                access: self.name(*access),
+                copy: *copy,
+                rec: *rec,
+                op: Op::PutData {
+                    version: *version,
+                    value: Val::number(*number),
+                },
             }),
-            Brief::GrantGet {
+            Brief::AskText {
                 access,
                 copy,
                 rec,
+                version,
+                text,
+            } => Event::Ask(Ask {
+                access: self.name(*access),
+                copy: *copy,
+                rec: *rec,
+                op: Op::PutData {
+                    version: *version,
+                    value: self.text(*text),
+                },
+            }),
+            Brief::Grant {
+                access,
+                copy,
+                rec,
+                op,
                 tuple,
             } => Event::Granted {
-                copy,
+                copy: *copy,
                 grant: Grant {
-                    access: self.name(access),
-                    rec,
-                    op: Op::Get,
-                    tuple: self.tuple(tuple),
+                    access: self.name(*access),
+                    rec: *rec,
+                    op: self.op(op),
+                    tuple: self.tuple(*tuple),
                 },
             },
-            Brief::GrantPut {
-                access,
-                copy,
-                rec,
-                tuple,
-            } => {
-                let tuple = self.tuple(tuple);
-                Event::Granted {
-                    copy,
-                    grant: Grant {
-                        access: self.name(access),
-                        rec,
-                        op: Op::PutData {
-                            version: tuple.version,
-                            value: tuple.value,
-                        },
-                        tuple,
-                    },
-                }
-            }
             Brief::Ready { top } => Event::Ready {
-                top: self.name(top),
+                top: self.name(*top),
             },
             Brief::Commit { name } => Event::End {
-                name: self.name(name),
+                name: self.name(*name),
                 how: How::Commit(Answer::Nothing),
             },
-            Brief::CommitValue { name, value } => Event::End {
-                name: self.name(name),
-                how: How::Commit(Answer::Value(value)),
+            Brief::CommitNumber { name, number } => Event::End {
+                name: self.name(*name),
+                how: How::Commit(Answer::Value(Val::number(*number))),
+            },
+            Brief::CommitText { name, text } => Event::End {
+                name: self.name(*name),
+                how: How::Commit(Answer::Value(self.text(*text))),
             },
             Brief::CommitReply { name, tuple } => Event::End {
-                name: self.name(name),
-                how: How::Commit(Answer::Reply(self.tuple(tuple))),
+                name: self.name(*name),
+                how: How::Commit(Answer::Reply(self.tuple(*tuple))),
             },
-            Brief::Other { at } => self.other(at),
-        }
-    }
-
-    // Whether a name stands at a place.
-    fn has_name(&self, at: u32, name: &Name) -> bool
-        ensures { IsTrue result → (at < length self.now.names) × (name_at self.now at ≡ name.now) }
-    {
-        match self.names.get(at as usize) {
-            Some(there) => there == name,
-            None => false,
-        }
-    }
-
-    // The place of a name: the one that is told, where it stands there, or that of a new one.
-    fn place_of(&mut self, name: &Name, place: Option<u32>) -> Result<u32, AllocError>
-        ensures grows { GrowsTo self.old self.new }
-        ensures within { IfOk result (λ at. at < length self.new.names) }
-        ensures there { IfOk result (λ at. name_at self.new at ≡ name.now) }
-    {
-        if let Some(at) = place {
-            if self.has_name(at, name) {
-                return Ok(at);
-            }
-        }
-        append(&mut self.names, *name)
-    }
-
-    // Whether a tuple is the last one.
-    fn ends_with(&self, tuple: &Tuple) -> bool
-        ensures { IsTrue result → (0 < length self.now.tuples)
-            × (tuple_at self.now (length self.now.tuples - 1) ≡ tuple.now) }
-    {
-        match self.tuples.last() {
-            Some(last) => last == tuple,
-            None => false,
-        }
-    }
-
-    // The place of a tuple: that of the last one, where it is the same, or that of a new one.
-    fn place_of_tuple(&mut self, tuple: &Tuple) -> Result<u32, AllocError>
-        ensures grows { GrowsTo self.old self.new }
-        ensures within { IfOk result (λ at. at < length self.new.tuples) }
-        ensures there { IfOk result (λ at. tuple_at self.new at ≡ tuple.now) }
-    {
-        if self.ends_with(tuple) {
-            if let Ok(at) = u32::try_from(self.tuples.len() - 1) {
-                return Ok(at);
-            }
-        }
-        append(&mut self.tuples, *tuple)
-    }
-
-    // The start of a name in brief; none of a reconfiguration's.
-    fn start(
-        &mut self,
-        name: &Name,
-        kind: &Kind,
-        place: Option<u32>,
-    ) -> Result<Option<Brief>, AllocError>
-        ensures grows { GrowsTo self.old self.new }
-        ensures told { IfOk result
-            (λ brief. MayTell self.new brief (event_is.Start name.now kind.now)) }
-    {
-        Ok(Some(match *kind {
-            Kind::User { session, body } => Brief::StartUser {
-                name: self.place_of(name, place)?,
-                session,
-                body,
-            },
-            Kind::Read { rec } => Brief::StartRead {
-                name: self.place_of(name, place)?,
-                rec,
-            },
-            Kind::Write { rec, value } => Brief::StartWrite {
-                name: self.place_of(name, place)?,
-                rec,
-                value,
-            },
-            Kind::Reconf { .. } => return Ok(None),
-            Kind::Access => Brief::StartAccess {
-                name: self.place_of(name, place)?,
-            },
-        }))
-    }
-
-    // A request in brief; none of a new configuration's.
-    fn ask(&mut self, ask: &Ask, place: Option<u32>) -> Result<Option<Brief>, AllocError>
-        ensures grows { GrowsTo self.old self.new }
-        ensures told { IfOk result (λ brief. MayTell self.new brief (event_is.Ask ask.now)) }
-    {
-        let Ask {
-            access,
-            copy,
-            rec,
-            op,
-        } = *ask;
-        Ok(Some(match op {
-            Op::Get => Brief::AskGet {
-                access: self.place_of(&access, place)?,
-                copy,
-                rec,
-            },
-            Op::PutData { version, value } => Brief::AskPut {
-                access: self.place_of(&access, place)?,
-                copy,
-                rec,
-                version,
-                value,
-            },
-            Op::PutConfig { .. } => return Ok(None),
-        }))
-    }
-
-    // A grant in brief; none where the tuple has another version or value than was put, or a new configuration was.
-    fn grant(
-        &mut self,
-        copy: u8,
-        grant: &Grant,
-        place: Option<u32>,
-    ) -> Result<Option<Brief>, AllocError>
-        ensures grows { GrowsTo self.old self.new }
-        ensures told { IfOk result
-            (λ brief. MayTell self.new brief (event_is.Granted copy grant.now)) }
-    {
-        let Grant {
-            access,
-            rec,
-            op,
-            tuple,
-        } = *grant;
-        match op {
-            Op::Get => Ok(Some(Brief::GrantGet {
-                access: self.place_of(&access, place)?,
-                copy,
-                rec,
-                tuple: self.place_of_tuple(&tuple)?,
-            })),
-            Op::PutData { version, value } => {
-                if version != tuple.version || value != tuple.value {
-                    return Ok(None);
-                }
-                Ok(Some(Brief::GrantPut {
-                    access: self.place_of(&access, place)?,
-                    copy,
-                    rec,
-                    tuple: self.place_of_tuple(&tuple)?,
-                }))
-            }
-            Op::PutConfig { .. } => Ok(None),
-        }
-    }
-
-    // A commit in brief; none with the generation of a new configuration.
-    fn commit(
-        &mut self,
-        name: &Name,
-        answer: &Answer,
-        place: Option<u32>,
-    ) -> Result<Option<Brief>, AllocError>
-        ensures grows { GrowsTo self.old self.new }
-        ensures told { IfOk result
-            (λ brief. MayTell self.new brief (event_is.End name.now (Commit answer.now))) }
-    {
-        Ok(Some(match answer {
-            Answer::Nothing => Brief::Commit {
-                name: self.place_of(name, place)?,
-            },
-            Answer::Value(value) => Brief::CommitValue {
-                name: self.place_of(name, place)?,
-                value: *value,
-            },
-            Answer::Generation(_) => return Ok(None),
-            Answer::Reply(tuple) => Brief::CommitReply {
-                name: self.place_of(name, place)?,
-                tuple: self.place_of_tuple(tuple)?,
-            },
-        }))
-    }
-
-    // An event in brief, where it has such a form.
-    fn short(&mut self, event: &Event, place: Option<u32>) -> Result<Option<Brief>, AllocError>
-        ensures grows { GrowsTo self.old self.new }
-        ensures told { IfOk result (λ brief. MayTell self.new brief event.now) }
-    {
-        match event {
-            Event::Start { name, kind } => self.start(name, kind, place),
-            Event::Ask(ask) => self.ask(ask, place),
-            Event::Granted { copy, grant } => self.grant(*copy, grant, place),
-            Event::Ready { top } => Ok(Some(Brief::Ready {
-                top: self.place_of(top, place)?,
-            })),
-            Event::End {
-                name,
-                how: How::Commit(answer),
-            } => self.commit(name, answer, place),
-            _ => Ok(None),
-        }
-    }
-
-    /// An event in brief, with what stands apart of it added to the lists. The place is where its name may stand among
-    /// the names; where it does not, it is added.
-    pub(crate) fn brief(&mut self, event: &Event, place: Option<u32>) -> Result<Brief, AllocError>
-        ensures grows { GrowsTo self.old self.new }
-        ensures told { IfOk result (λ brief. Tells self.new brief event.now) }
-    {
-        match self.short(event, place)? {
-            Some(brief) => Ok(brief),
-            None => Ok(Brief::Other {
-                at: append(&mut self.others, *event)?,
-            }),
+            Brief::Rare { at } => self.rares.event(*at),
         }
     }
 }

@@ -8,8 +8,9 @@ use qc_names::lists::{add, append_some, make_room};
 use std::alloc::{AllocError, Global};
 use std::marker::Model;
 
-/// The entries of a history, the oldest first. An entry takes 40 bytes where `Entry` takes 192; beside that a name is
-/// kept for each started transaction, a tuple for each that is not the one before it, and what is seldom as it is.
+/// The entries of a history, the oldest first. An entry takes 40 bytes where `Entry` takes more than 2,000; beside that
+/// a name is kept for each started transaction, a tuple and a text for each that is not the one before it, and what is
+/// seldom.
 #[derive(Debug, Drop)]
 pub struct Trail {
     lists: Lists,
@@ -77,7 +78,7 @@ impl Trail {
         requires { at < length self.now }
         ensures { slice_get self.now at ≡ Some result }
     {
-        let brief = self.briefs[at];
+        let brief = &self.briefs[at];
         Entry {
             seat: brief.seat,
             event: self.lists.event(&brief.event),

@@ -10,7 +10,7 @@ ghost use Rattle.qc_trail_codec.specs.Saving.{IsTupleFor, records_of};
 ghost use Rattle.qc_trail_codec.specs.Trail as saved;
 
 use crate::kind::put_byte;
-use qc_codec::{CodecNo, Cursor, FORMAT, put_tuple};
+use qc_codec::{CodecNo, Cursor, put_tuple};
 use qc_config::Tuple;
 use qc_event::Base;
 use std::alloc::{AllocError, Global};
@@ -90,7 +90,7 @@ fn put_row(out: &mut Vec<u8>, copies: u8, row: &[Tuple]) -> Result<(), AllocErro
     ensures fits { OnOk result (All (field.tuple (current copies)).fits row.now) }
 {
     for tuple in row {
-        put_tuple(out, copies, FORMAT, tuple)?;
+        put_tuple(out, copies, tuple)?;
     }
     Ok(())
 }

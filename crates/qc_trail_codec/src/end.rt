@@ -7,7 +7,7 @@ ghost use Rattle.qc_trail_codec.specs.Saving.{CanEndBeSaved, IsAnswerFor, IsNumb
 
 use crate::kind::put_byte;
 use crate::reason::{lack, put_lack};
-use qc_codec::{CodecNo, Cursor, FORMAT, put_long, put_name, put_tuple, put_value};
+use qc_codec::{CodecNo, Cursor, put_long, put_name, put_tuple, put_value};
 use qc_event::{Answer, Cause, How};
 use std::alloc::AllocError;
 
@@ -38,7 +38,7 @@ fn put_answer(out: &mut Vec<u8>, copies: u8, answer: &Answer) -> Result<(), Allo
         Answer::Nothing => put_byte(out, 0),
         Answer::Value(value) => {
             put_byte(out, 1)?;
-            put_value(out, FORMAT, value)
+            put_value(out, value)
         }
         Answer::Generation(generation) => {
             put_byte(out, 2)?;
@@ -46,7 +46,7 @@ fn put_answer(out: &mut Vec<u8>, copies: u8, answer: &Answer) -> Result<(), Allo
         }
         Answer::Reply(tuple) => {
             put_byte(out, 3)?;
-            put_tuple(out, copies, FORMAT, tuple)
+            put_tuple(out, copies, tuple)
         }
     }
 }

@@ -9,7 +9,7 @@ ghost use Rattle.qc_trail_codec.specs.Saving.{CanAskBeSaved, CanBeSaved, CanEven
 use crate::end::{how, put_how};
 use crate::kind::{kind, op, put_byte, put_kind, put_op};
 use crate::reason::{inability, put_why, why};
-use qc_codec::{CodecNo, Cursor, FORMAT, put_granted, put_name, put_word};
+use qc_codec::{CodecNo, Cursor, put_granted, put_name, put_word};
 use qc_event::{Ask, Entry, Event, Grant, Name, Refusal, Why};
 use std::alloc::AllocError;
 
@@ -153,7 +153,7 @@ fn put_grant(out: &mut Vec<u8>, copies: u8, copy: u8, grant: &Grant) -> Result<(
 {
     put_byte(out, 4)?;
     put_byte(out, copy)?;
-    put_granted(out, copies, FORMAT, grant)
+    put_granted(out, copies, grant)
 }
 
 #[tactic(auto, using(crate::proofs::Fits::numbered_some), unfolding(crate::specs::Events::event))]

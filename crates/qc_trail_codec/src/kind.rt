@@ -6,7 +6,7 @@ ghost use Rattle.qc_codec.specs.Gives.{Reads, Puts};
 ghost use Rattle.qc_trail_codec.specs.Events as events;
 ghost use Rattle.qc_trail_codec.specs.Saving.{IsKindFor, IsOpFor};
 
-use qc_codec::{CodecNo, Cursor, FORMAT, put_config, put_long, put_value, put_word};
+use qc_codec::{CodecNo, Cursor, put_config, put_long, put_value, put_word};
 use qc_config::Op;
 use qc_event::Kind;
 use std::alloc::AllocError;
@@ -54,12 +54,12 @@ pub(crate) fn put_op(out: &mut Vec<u8>, copies: u8, op: &Op) -> Result<(), Alloc
         Op::PutData { version, value } => {
             out.push(1)?;
             put_long(out, *version)?;
-            put_value(out, FORMAT, value)
+            put_value(out, value)
         }
         Op::PutConfig { generation, config } => {
             out.push(2)?;
             put_long(out, *generation)?;
-            put_config(out, copies, FORMAT, config)
+            put_config(out, copies, config)
         }
     }
 }
@@ -114,12 +114,12 @@ pub(crate) fn put_kind(out: &mut Vec<u8>, copies: u8, kind: &Kind) -> Result<(),
         Kind::Write { rec, value } => {
             out.push(2)?;
             out.push(*rec)?;
-            put_value(out, FORMAT, value)
+            put_value(out, value)
         }
         Kind::Reconf { rec, config } => {
             out.push(3)?;
             out.push(*rec)?;
-            put_config(out, copies, FORMAT, config)
+            put_config(out, copies, config)
         }
         Kind::Access => put_byte(out, 4),
     }

@@ -6,7 +6,7 @@ use std::io;
 fn print_answer(rt: &HostRuntime, answer: &Answer) -> io::Result<()> {
     match *answer {
         Answer::Nothing => println!(rt; "nothing"),
-        Answer::Value(value) => println!(rt; "value {}", value.as_number()),
+        Answer::Value(value) => println!(rt; "value {value:?}"),
         Answer::Generation(generation) => println!(rt; "generation {generation}"),
         Answer::Reply(tuple) => {
             let tuple = TupleText(tuple);

@@ -1,7 +1,7 @@
 //! Grants.
 ghost use Rattle.std.specs.Prelude.{◌≤◌};
 ghost use Rattle.qc_codec.specs.Bodies as body;
-ghost use Rattle.qc_codec.specs.Fields.{layout};
+ghost use Rattle.qc_codec.specs.Fields.{current, layout};
 
 use crate::{Answer, bytes_of, print_bytes, print_fault};
 use qc_codec::{read_grant, write_grant};
@@ -15,7 +15,7 @@ use std::io;
 pub(crate) fn print_op(rt: &HostRuntime, op: &Op) -> io::Result<()> {
     match *op {
         Op::Get => print!(rt; "get"),
-        Op::PutData { version, value } => print!(rt; "put {version} {}", value.as_number()),
+        Op::PutData { version, value } => print!(rt; "put {version} {value:?}"),
         Op::PutConfig { generation, config } => {
             let config = ConfigText(config);
             print!(rt; "configure {generation} {config}")
@@ -23,21 +23,15 @@ pub(crate) fn print_op(rt: &HostRuntime, op: &Op) -> io::Result<()> {
     }
 }
 
-fn print_both(
-    rt: &HostRuntime,
-    alloc: Global,
-    copies: u8,
-    format: u8,
-    grant: &Grant,
-) -> io::Result<()>
+fn print_both(rt: &HostRuntime, alloc: Global, copies: u8, grant: &Grant) -> io::Result<()>
     requires copies { copies ≤ 16 }
-    requires fits { (body.grant (layout copies format)).fits grant.now }
+    requires fits { (body.grant (current copies)).fits grant.now }
 {
     let (access, rec, tuple) = (grant.access, grant.rec, TupleText(grant.tuple));
     print!(rt; "{access} record {rec} ")?;
     print_op(rt, &grant.op)?;
     println!(rt; " leaves {tuple}")?;
-    let again = write_grant(alloc, grant, copies, format)?;
+    let again = write_grant(alloc, grant, copies)?;
     print_bytes(rt, alloc, &again)
 }
 
@@ -45,7 +39,7 @@ fn show(rt: &HostRuntime, alloc: Global, copies: u8, format: u8, bytes: &[u8]) -
     requires { copies ≤ 16 }
 {
     match read_grant(bytes, copies, format) {
-        Ok(grant) => print_both(rt, alloc, copies, format, &grant),
+        Ok(grant) => print_both(rt, alloc, copies, &grant),
         Err(fault) => print_fault(rt, fault),
     }
 }

@@ -3,10 +3,10 @@ ghost use Rattle.qc_codec.specs.Bodies as body;
 
 use crate::mades::print_made;
 use crate::{Answer, bytes_of, print_bytes, print_fault};
-use qc_codec::{LedgerRecord, Names, read_ledger, write_ledger};
+use qc_codec::{LedgerRecord, Names, read_ledger, write_ledger, write_made_anew};
 use qc_event::Name;
 use rows_text::Words;
-use std::alloc::Global;
+use std::alloc::{AllocError, Global};
 use std::io;
 
 fn print_top(rt: &HostRuntime, top: &Name, aborted: &Names) -> io::Result<()> {
@@ -25,11 +25,22 @@ fn print_record(rt: &HostRuntime, logged: &LedgerRecord) -> io::Result<()> {
     }
 }
 
+// The bytes of a record in the current format.
+fn bytes_again(alloc: Global, logged: &LedgerRecord) -> Result<Vec<u8>, AllocError>
+    requires { body.ledger.fits logged.now }
+{
+    match logged {
+        LedgerRecord::Made(made) => write_made_anew(alloc, made),
+        LedgerRecord::Epoch(_) => write_ledger(alloc, logged),
+        LedgerRecord::Top { .. } => write_ledger(alloc, logged),
+    }
+}
+
 fn print_both(rt: &HostRuntime, alloc: Global, logged: &LedgerRecord) -> io::Result<()>
     requires { body.ledger.fits logged.now }
 {
     print_record(rt, logged)?;
-    let again = write_ledger(alloc, logged)?;
+    let again = bytes_again(alloc, logged)?;
     print_bytes(rt, alloc, &again)
 }
 

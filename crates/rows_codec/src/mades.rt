@@ -2,7 +2,7 @@
 ghost use Rattle.qc_codec.specs.Bodies as body;
 
 use crate::{Answer, bytes_of, print_bytes, print_fault};
-use qc_codec::{Made, read_made, write_made};
+use qc_codec::{Made, read_made, write_made_anew};
 use qc_event::Row;
 use rows_text::{ConfigText, Words};
 use std::alloc::Global;
@@ -10,9 +10,8 @@ use std::{io, str};
 
 fn print_row(rt: &HostRuntime, row: &Row) -> io::Result<()> {
     let name = str::from_utf8(row.name.as_bytes()).unwrap_or("no text");
-    let start = row.start.as_number();
-    let config = ConfigText(row.config);
-    print!(rt; "; {name} {start} {config}")
+    let (start, config) = (row.start, ConfigText(row.config));
+    print!(rt; "; {name} {start:?} {config}")
 }
 
 /// Prints what a made record says.
@@ -29,7 +28,7 @@ fn print_both(rt: &HostRuntime, alloc: Global, made: &Made) -> io::Result<()>
     requires { body.made.fits made.now }
 {
     print_made(rt, made)?;
-    let again = write_made(alloc, made)?;
+    let again = write_made_anew(alloc, made)?;
     print_bytes(rt, alloc, &again)
 }
 

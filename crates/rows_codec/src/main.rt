@@ -1,6 +1,6 @@
 //! Reads the body that each line of the input is, in hex behind the word of its kind, and prints what it says and,
-//! below that, the bytes that are written of it again. What is no such body is `bad`. Blank lines and titles, which
-//! begin with `#`, are printed as they are.
+//! below that, the bytes that are written of it again, in the current format. What is no such body is `bad`. Blank
+//! lines and titles, which begin with `#`, are printed as they are.
 #![tactic(auto)]
 
 mod bases;

@@ -140,8 +140,8 @@ fn tell_difference(
 fn tell_tuple(rt: HostRuntime, what: &str, tuple: Option<&Tuple>) -> io::Result<()> {
     match tuple {
         Some(tuple) => {
-            let (version, value) = (tuple.version, tuple.value.as_number());
-            println!(rt; "compared: {what}: value {value} version {version}")
+            let (version, value) = (tuple.version, tuple.value);
+            println!(rt; "compared: {what}: value {value:?} version {version}")
         }
         None => println!(rt; "compared: {what}: none"),
     }

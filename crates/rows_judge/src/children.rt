@@ -5,7 +5,7 @@ use crate::deeds::{Deed, Told, number_below};
 use crate::fault::Fault;
 use crate::halt::Halt;
 use crate::marks::is_marked_by_itself;
-use qc_event::{Kind, Name};
+use qc_event::{Kind, Name, Val};
 use qc_script::Body;
 
 /// Which child of a transaction is next, how many of its marks came before, and where it did its last.
@@ -161,7 +161,7 @@ impl<'t> Children<'t> {
         &mut self,
         kind: &Kind,
         missing: Halt,
-    ) -> Result<Result<Option<u64>, Halt>, Fault> {
+    ) -> Result<Result<Option<Val>, Halt>, Fault> {
         let Some(child) = self.next() else {
             return Ok(Err(missing));
         };

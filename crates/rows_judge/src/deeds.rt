@@ -2,14 +2,14 @@
 
 use crate::causes::same_cause;
 use crate::fault::Fault;
-use qc_event::{Answer, Cause, Entry, Event, How, Kind, Name};
+use qc_event::{Answer, Cause, Entry, Event, How, Kind, Name, Val};
 use qc_names::lists::append;
 use std::alloc::Global;
 
 /// What one came to: it committed, a read with a value, or it was aborted.
 #[derive(Clone, Copy)]
 pub(crate) enum Came {
-    Committed(Option<u64>),
+    Committed(Option<Val>),
     Aborted(Cause),
 }
 
@@ -71,7 +71,7 @@ impl Came {
     // What an end tells.
     fn of(how: &How) -> Self {
         match how {
-            How::Commit(Answer::Value(value)) => Came::Committed(Some(value.as_number())),
+            How::Commit(Answer::Value(value)) => Came::Committed(Some(*value)),
             How::Commit(_) => Came::Committed(None),
             How::Abort(cause) => Came::Aborted(*cause),
         }
@@ -85,7 +85,7 @@ impl Came {
     }
 
     // The value of a read.
-    fn value(&self) -> Option<u64> {
+    fn value(&self) -> Option<Val> {
         match self {
             Came::Committed(value) => *value,
             Came::Aborted(_) => None,
@@ -169,7 +169,7 @@ impl Deed {
     }
 
     /// The value that it read; none where it committed without one, or did not commit.
-    pub(crate) fn value(&self) -> Option<u64> {
+    pub(crate) fn value(&self) -> Option<Val> {
         match &self.end {
             Some(end) => end.came.value(),
             None => None,

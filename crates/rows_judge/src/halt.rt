@@ -17,7 +17,7 @@ pub(crate) enum Halt {
     Asks { step: usize, levels: u8 },
     /// This manager was aborted.
     Refused(Name),
-    /// What was read is less than what is needed.
+    /// What was read is a text where a number is needed, or less than what is needed.
     Short,
     /// This try of a child that must commit is its last, and was aborted.
     Lost(Name),

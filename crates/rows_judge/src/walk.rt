@@ -13,17 +13,17 @@ fn simple(children: &mut Children<'_>, kind: &Kind) -> Result<Option<Halt>, Faul
     Ok(children.take_manager(kind, missing)?.err())
 }
 
-// The value that a step reads.
+// The number that a step reads. It goes no further with a text.
 fn look_up(children: &mut Children<'_>, rec: u8) -> Result<Result<u64, Halt>, Fault> {
     let missing = children.not_begun();
     Ok(match children.take_manager(&Kind::Read { rec }, missing)? {
-        Ok(Some(value)) => Ok(value),
+        Ok(Some(value)) => value.as_number().ok_or(Halt::Short),
         Ok(None) => Err(missing),
         Err(halt) => Err(halt),
     })
 }
 
-// A step that reads a value, and writes it with this one added.
+// A step that reads a number, and writes it with this one added.
 fn change(children: &mut Children<'_>, rec: u8, value: u64) -> Result<Option<Halt>, Fault> {
     match look_up(children, rec)? {
         Ok(old) => {
@@ -85,7 +85,7 @@ fn go(children: &mut Children<'_>, step: &Step) -> Result<Option<Halt>, Fault> {
             children,
             &Kind::Write {
                 rec: *rec,
-                value: *value,
+                value: value.val(),
             },
         ),
         Step::Add { rec, value } => change(children, *rec, *value),

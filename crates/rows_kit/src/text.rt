@@ -35,7 +35,7 @@ pub fn records(alloc: Global, bodies: &[Body]) -> Result<String, AllocError> {
 
 /// A tuple behind a blank: its value and version, the read and write quorum of its configuration, and its generation.
 pub fn tuple(alloc: Global, tuple: &Tuple) -> Result<String, AllocError> {
-    let (version, value, generation) = (tuple.version, tuple.value.as_number(), tuple.generation);
+    let (version, value, generation) = (tuple.version, tuple.value, tuple.generation);
     let (read, write) = (tuple.config.read(), tuple.config.write());
-    format!(in alloc; " {value} v{version} {read}/{write} g{generation}")
+    format!(in alloc; " {value:?} v{version} {read}/{write} g{generation}")
 }

@@ -123,7 +123,8 @@ pub fn begins_otherwise()
 {}
 
 /// A step `add` or `sub` follows its script where what was read is written changed, also past either end of the numbers,
-/// and a step `need` where the top goes on with as much as is needed and aborts itself with less.
+/// and a step `need` where the top goes on with as much as is needed and aborts itself with less. Where any of them reads a
+/// text, the top aborts itself, also where no more than 0 is added or needed.
 pub fn goes_by_values()
     ensures added { FollowsBodies 0 (reverse (values.changed 4 7)) (values.add 3) (trails.top ∷ []) }
     ensures added_past { FollowsBodies 0 (reverse (values.changed values.last_value 0))
@@ -137,10 +138,17 @@ pub fn goes_by_values()
         (trails.top ∷ []) }
     ensures too_little { FollowsBodies 0 (reverse (values.too_little 29)) (values.need 30)
         (trails.top ∷ []) }
+    ensures text_added { FollowsBodies 0 (reverse (values.text_then values.aborts)) (values.add 0)
+        (trails.top ∷ []) }
+    ensures text_taken { FollowsBodies 0 (reverse (values.text_then values.aborts)) (values.sub 3)
+        (trails.top ∷ []) }
+    ensures text_needed { FollowsBodies 0 (reverse (values.text_then values.aborts)) (values.need 0)
+        (trails.top ∷ []) }
 {}
 
 /// None of these follows its script: an `add` that writes what it read, stops at the last number, or writes nothing; a
-/// `sub` that stops at 0; and a `need` that fails with as much as is needed, or holds with less.
+/// `sub` that stops at 0; a `need` that fails with as much as is needed, or holds with less; and an `add` that takes a
+/// text for a number, or leaves it as it is, and a `need` that holds with a text.
 pub fn goes_by_no_other_value()
     ensures nothing_added { PastFollows trails.net (values.add 3)
         (reverse (values.changed 4 4)) → ⊥ }
@@ -154,6 +162,12 @@ pub fn goes_by_no_other_value()
         (reverse (values.too_little 30)) → ⊥ }
     ensures holds_with_less { PastFollows trails.net (values.need 30)
         (reverse (values.enough 29)) → ⊥ }
+    ensures text_added { PastFollows trails.net (values.add 3)
+        (reverse (values.text_then (values.writes 33))) → ⊥ }
+    ensures text_left { PastFollows trails.net (values.add 0)
+        (reverse (values.text_then values.commits)) → ⊥ }
+    ensures text_enough { PastFollows trails.net (values.need 0)
+        (reverse (values.text_then values.commits)) → ⊥ }
 {}
 
 /// A top follows its script that is aborted for a child that must commit and did not, and is then begun again where tries

@@ -65,8 +65,8 @@ fn print_next(rt: &HostRuntime, next: Next, shortage: &Shortage) -> io::Result<(
 fn print_gathered(rt: &HostRuntime, gather: &Gather) -> io::Result<()> {
     let (version, value) = gather.greatest();
     let (generation, config) = gather.newest();
-    let (value, newest) = (value.as_number(), ConfigText(config));
-    print!(rt; "version {version} value {value}, generation {generation} {newest}; ")?;
+    let newest = ConfigText(config);
+    print!(rt; "version {version} value {value:?}, generation {generation} {newest}; ")?;
     print_next(rt, gather.next(), &gather.lack())
 }
 

@@ -20,8 +20,8 @@ pub(crate) fn served(
 ) -> Result<String, AllocError> {
     match answer {
         Ok(Answered::Granted(tuple)) => {
-            let (value, version) = (tuple.value.as_number(), tuple.version);
-            format!(in alloc; "granted {value} v{version}")
+            let (value, version) = (tuple.value, tuple.version);
+            format!(in alloc; "granted {value:?} v{version}")
         }
         Ok(Answered::Blocked(holder)) => format!(in alloc; "blocked by {holder}"),
         Ok(Answered::Dead(ancestor)) => format!(in alloc; "dead below {ancestor}"),
@@ -40,8 +40,8 @@ fn grant(alloc: Global, grant: &Grant) -> Result<String, AllocError> {
         Op::PutConfig { .. } => "moved",
     };
     let (access, tuple) = (&grant.access, &grant.tuple);
-    let (value, version) = (tuple.value.as_number(), tuple.version);
-    format!(in alloc; ", {access} {did} {value} v{version}")
+    let (value, version) = (tuple.value, tuple.version);
+    format!(in alloc; ", {access} {did} {value:?} v{version}")
 }
 
 // The access of a grant; none is a stroke.
@@ -81,8 +81,8 @@ fn base(alloc: Global, base: &BaseRecord) -> Result<String, AllocError> {
     let (number, epoch) = (base.number, base.epoch);
     let mut text = format!(in alloc; ", base {number} of epoch {epoch}:")?;
     for tuple in base.tuples.as_slice() {
-        let (value, version) = (tuple.value.as_number(), tuple.version);
-        let one = format!(in alloc; " {value} v{version}")?;
+        let (value, version) = (tuple.value, tuple.version);
+        let one = format!(in alloc; " {value:?} v{version}")?;
         text.push_str(one.as_str())?;
     }
     Ok(text)

@@ -19,7 +19,7 @@ fn value_read(entry: &Entry) -> Option<u64> {
         Event::End {
             how: How::Commit(Answer::Value(value)),
             ..
-        } => Some(value.as_number()),
+        } => value.as_number(),
         _ => None,
     }
 }

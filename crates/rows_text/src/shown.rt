@@ -34,8 +34,8 @@ impl fmt::Display for TupleText {
             generation,
             config,
         } = self.0;
-        let (value, config) = (value.as_number(), ConfigText(config));
-        write!(f, "{version} {value} {generation} {config}")
+        let config = ConfigText(config);
+        write!(f, "{version} {value:?} {generation} {config}")
     }
 }
 
@@ -48,7 +48,7 @@ impl fmt::Display for KindText {
         match self.0 {
             Kind::User { session, body } => write!(f, "user {session} {body}"),
             Kind::Read { rec } => write!(f, "read {rec}"),
-            Kind::Write { rec, value } => write!(f, "write {rec} {}", value.as_number()),
+            Kind::Write { rec, value } => write!(f, "write {rec} {value:?}"),
             Kind::Reconf { rec, config } => {
                 let config = ConfigText(config);
                 write!(f, "reconf {rec} {config}")

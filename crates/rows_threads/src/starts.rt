@@ -10,7 +10,7 @@ fn other_kind(slip: &str, kind: &Kind) -> Option<Kind> {
     match (slip, kind) {
         ("value", Kind::Write { rec, value }) => Some(Kind::Write {
             rec: *rec,
-            value: Val::number(value.as_number().wrapping_add(1)),
+            value: Val::number(value.as_number().map_or(0, |n| n.wrapping_add(1))),
         }),
         ("record", Kind::Read { rec }) => Some(Kind::Read { rec: *rec ^ 1 }),
         ("body", Kind::User { session, body }) => Some(Kind::User {

@@ -38,14 +38,8 @@ impl fmt::Display for EventText {
         match self.0 {
             SerialEvent::Start(name) => write!(f, "start {name}"),
             SerialEvent::Enter(name) => write!(f, "enter {name}"),
-            SerialEvent::Read { name, rec, value } => {
-                let value = value.as_number();
-                write!(f, "read {name} {rec} {value}")
-            }
-            SerialEvent::Write { name, rec, value } => {
-                let value = value.as_number();
-                write!(f, "write {name} {rec} {value}")
-            }
+            SerialEvent::Read { name, rec, value } => { write!(f, "read {name} {rec} {value:?}") }
+            SerialEvent::Write { name, rec, value } => { write!(f, "write {name} {rec} {value:?}") }
             SerialEvent::Leave(name) => write!(f, "leave {name}"),
             SerialEvent::Skip(name) => write!(f, "skip {name}"),
         }
@@ -86,7 +80,7 @@ fn write_order<W: fmt::Write>(f: &mut fmt::Formatter<W>, events: &[SerialEvent])
 fn write_values<W: fmt::Write>(f: &mut fmt::Formatter<W>, values: &[Val]) -> fmt::Result {
     write!(f, "values")?;
     for value in values {
-        write!(f, " {}", value.as_number())?;
+        write!(f, " {value:?}")?;
     }
     Ok(())
 }

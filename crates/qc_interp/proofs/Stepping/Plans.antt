@@ -1,6 +1,6 @@
 -- The plans of bodies and of steps, one step at a time.
-use Rattle.std.proofs.Common.{◌≡◌, ℕ, zero, suc, ◌+◌, ◌<◌, ◌≤◌, arith, Bool, true, false, drop, List, [], ◌∷◌, length, get_or, refl, sym, ap, ◌∙◌, subst, Vec, Global, add-one, drop-cons}
-use Rattle.std.specs.Prelude.{nat_lt, if◌then◌else◌, map}
+use Rattle.std.proofs.Common.{◌≡◌, ℕ, zero, suc, ◌+◌, ◌<◌, ◌≤◌, arith, Bool, true, false, drop, List, [], ◌∷◌, length, get_or, sym, ap, ◌∙◌, subst, Vec, Global, add-one, drop-cons}
+use Rattle.std.specs.Prelude.{Option, None, Some, if◌then◌else◌, map}
 use Rattle.qc_config.specs.Config.{Voting}
 use Rattle.qc_config.specs.Val.{Datum}
 use Rattle.qc_event.specs.declared.event.Answer.TheVariants as answer
@@ -9,7 +9,7 @@ use Rattle.qc_event.specs.Base.{Setting}
 use Rattle.qc_script.specs.declared.script.Body.{Body, out-Body, fold_out-Body}
 use Rattle.qc_script.specs.declared.script.Step.{Step, Step-F, map-Step, out-Step, fold-roll-Step, fold_out-Step}
 use Rattle.qc_script.specs.declared.script.Step.TheVariants as step
-use Rattle.qc_script.specs.Plan.{Plan, Numbered, PlanFits, manage_then, change_then, need_then, value_of, plus, minus, row_of}
+use Rattle.qc_script.specs.Plan.{Plan, Numbered, PlanFits, manage_then, change_then, need_then, number_in, is_enough, write_changed, plus, minus, row_of}
 use Rattle.qc_script.proofs.Plans.{all_before-map}
 use Rattle.qc_script.specs.Steps.{before, layer, numbered, put, plan_of}
 
@@ -79,17 +79,12 @@ weight (Plan.kill_then session rest) = weight rest
 layered : (s : Step) → put s ≡ before (map-Step Step Body (Plan → Plan) Numbered put numbered (out-Step s))
 layered s = fold_out-Step (Plan → Plan) Numbered before layer s
 
--- whether a value was enough or not
-either_weight : (less : Bool) (rest : Plan) → weight (if less then Plan.abort_then 0 rest else rest) ≡ weight rest
-either_weight true rest = refl
-either_weight false rest = refl
-
 lighter : (s : Step-F (Plan → Plan) Numbered) (rest : Plan) → weight rest ≤ weight (before s rest)
 lighter (Step-F.Read rec) rest = omega arith
 lighter (Step-F.Set rec value) rest = omega arith
 lighter (Step-F.Add rec value) rest = omega arith
 lighter (Step-F.Sub rec value) rest = omega arith
-lighter (Step-F.Need rec value) rest = omega (arith, either_weight (nat_lt 0 value) rest)
+lighter (Step-F.Need rec value) rest = omega arith
 lighter (Step-F.Reconf rec config) rest = omega arith
 lighter (Step-F.Child body) rest = omega arith
 lighter (Step-F.Par bodies) rest = omega arith
@@ -102,7 +97,7 @@ alone (Step-F.Read rec) rest = omega arith
 alone (Step-F.Set rec value) rest = omega arith
 alone (Step-F.Add rec value) rest = omega arith
 alone (Step-F.Sub rec value) rest = omega arith
-alone (Step-F.Need rec value) rest = omega (arith, either_weight (nat_lt 0 value) rest, either_weight (nat_lt 0 value) Plan.done)
+alone (Step-F.Need rec value) rest = omega arith
 alone (Step-F.Reconf rec config) rest = omega arith
 alone (Step-F.Child body) rest = omega arith
 alone (Step-F.Par bodies) rest = omega arith
@@ -129,24 +124,22 @@ step_lighter steps i s below is =
     let rest = plan_of (drop (i + 1) steps) in
     omega (arith, rest_lighter i steps, ap weight (plan_at steps i s below is), ap (λ f. weight (f rest)) (layered s), ap (λ f. weight (f Plan.done)) (layered s), alone l rest)
 
--- what fits whether a value was enough or not
-either_alone : (setting : Setting) (depth : ℕ) (less : Bool) (rest : Plan) → PlanFits setting depth (if less then Plan.abort_then 0 rest else rest) → PlanFits setting depth (if less then Plan.abort_then 0 Plan.done else Plan.done)
-either_alone setting depth true rest h = (h.0, tt)
-either_alone setting depth false rest h = tt
+-- what fits whether there was a number or not
+changed_alone : (setting : Setting) (depth rec : ℕ) (changed : ℕ → ℕ) (rest : Plan) (o : Option ℕ) → PlanFits setting depth (write_changed rec changed rest o) → PlanFits setting depth (write_changed rec changed Plan.done o)
+changed_alone setting depth rec changed rest None h = (h.0, tt)
+changed_alone setting depth rec changed rest (Some n) h = (h.0, λ done. tt)
 
-either_fits : (setting : Setting) (depth : ℕ) (less : Bool) (rest : Plan) → PlanFits setting depth (if less then Plan.abort_then 0 rest else rest) → PlanFits setting depth rest
-either_fits setting depth true rest h = h.1
-either_fits setting depth false rest h = h
+-- what fits whether a value was enough or not
+either_alone : (setting : Setting) (depth : ℕ) (enough : Bool) (rest : Plan) → PlanFits setting depth (if enough then rest else Plan.abort_then 0 rest) → PlanFits setting depth (if enough then Plan.done else Plan.abort_then 0 Plan.done)
+either_alone setting depth true rest h = tt
+either_alone setting depth false rest h = (h.0, tt)
 
 fits_layer : (setting : Setting) (depth : ℕ) (s : Step-F (Plan → Plan) Numbered) (rest : Plan) → PlanFits setting depth (before s rest) → PlanFits setting depth (before s Plan.done) × PlanFits setting depth rest
 fits_layer setting depth (Step-F.Read rec) rest h = ((h.0, λ given. tt), h.1 answer.Nothing)
 fits_layer setting depth (Step-F.Set rec value) rest h = ((h.0, λ given. tt), h.1 answer.Nothing)
-fits_layer setting depth (Step-F.Add rec value) rest h = ((h.0, λ given. ((h.1 given).0, λ done. tt)), (h.1 answer.Nothing).1 answer.Nothing)
-fits_layer setting depth (Step-F.Sub rec value) rest h = ((h.0, λ given. ((h.1 given).0, λ done. tt)), (h.1 answer.Nothing).1 answer.Nothing)
-fits_layer setting depth (Step-F.Need rec value) rest h = (
-  (h.0, λ given. either_alone setting depth (nat_lt (value_of given) value) rest (h.1 given)),
-  either_fits setting depth (nat_lt 0 value) rest (h.1 answer.Nothing),
-)
+fits_layer setting depth (Step-F.Add rec value) rest h = ((h.0, λ given. changed_alone setting depth rec (λ old. plus old value) rest (number_in given) (h.1 given)), (h.1 answer.Nothing).1)
+fits_layer setting depth (Step-F.Sub rec value) rest h = ((h.0, λ given. changed_alone setting depth rec (λ old. minus old value) rest (number_in given) (h.1 given)), (h.1 answer.Nothing).1)
+fits_layer setting depth (Step-F.Need rec value) rest h = ((h.0, λ given. either_alone setting depth (is_enough value given) rest (h.1 given)), (h.1 answer.Nothing).1)
 fits_layer setting depth (Step-F.Reconf rec config) rest h = ((h.0, λ given. tt), h.1 answer.Nothing)
 fits_layer setting depth (Step-F.Child body) rest h = ((h.0, h.1, h.2, tt), h.3)
 fits_layer setting depth (Step-F.Par bodies) rest h = ((h.0, h.1, h.2, h.3, tt, h.5), h.4)

@@ -13,8 +13,9 @@ use crate::bad_script::{BadScript, Member};
 use crate::reader::object::{
     check_object, check_within, limited, list_at, member_at, number_at, text_at,
 };
+use crate::reader::values::value_of;
 use indexmap::IndexSet;
-use qc_event::{Config, Label, Row, Rows, Table, Val};
+use qc_event::{Config, Label, Row, Rows, Table};
 use serde_json::Value;
 use std::alloc::Global;
 
@@ -130,12 +131,13 @@ fn row_of<'v>(
 {
     check_object(value, Member::RecordRow, &["name", "start", "config"], &[])?;
     let name = name_of(alloc, names, value)?;
-    let start = number_at(value, "start", Member::Start)?;
+    let start = member_at(value, "start", Member::Start)?;
+    let start = value_of(start, Member::Start, Member::Start)?;
     let config = member_at(value, "config", Member::Config)?;
     let config = config_of(alloc, copies, config)?;
     Ok(Row {
         name,
-        start: Val::number(start),
+        start,
         config,
     })
 }

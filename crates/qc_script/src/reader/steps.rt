@@ -9,8 +9,9 @@ ghost use Rattle.qc_script.specs.Reading.{Gives};
 
 use crate::bad_script::{BadScript, Member};
 use crate::reader::rows::{Records, check_name, config_of};
+use crate::reader::values::{is_value, value_of};
 use crate::script::Step;
-use qc_event::Val;
+use qc_config::OwnVal;
 use serde_json::Value;
 use std::alloc::Global;
 
@@ -72,9 +73,16 @@ fn set_of(
     ensures { (next : ℕ) → Gives (λ s. (put s, next)) result
         (script.set_of records.now.table next (view rec.now) (view value.now)) }
 {
-    let (rec, number) = amount_of(alloc, records, rec, value)?;
-    let value = Val::number(number);
-    Ok(Step::Set { rec, value })
+    let name = step_name(rec)?;
+    if !is_value(value) {
+        return Err(BadScript::Shape(Member::Step));
+    }
+    let rec = records.number_of(alloc, name)?;
+    let value = value_of(value, Member::Step, Member::Value)?;
+    Ok(Step::Set {
+        rec,
+        value: OwnVal::of(alloc, &value)?,
+    })
 }
 
 fn add_of(

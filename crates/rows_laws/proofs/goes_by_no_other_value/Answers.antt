@@ -41,3 +41,25 @@ returns-clause-holds_with_less c = λ f. elim f.each_runs.0.bodies_run.0.steps.2
     | inr killed ↦ absurd killed
   ]
 ]
+
+-- behind a text a step only aborts its transaction
+pub returns-clause-text_added : goal.returns-clause-text_added
+returns-clause-text_added c = λ f. f.each_runs.0.bodies_run.0.steps.2
+
+pub returns-clause-text_left : goal.returns-clause-text_left
+returns-clause-text_left c = λ f. elim f.each_runs.0.bodies_run.0.steps.2 [
+  | inl asked ↦ absurd cc
+  | inr before ↦ elim before [
+    | inl early ↦ absurd early
+    | inr killed ↦ absurd killed
+  ]
+]
+
+pub returns-clause-text_enough : goal.returns-clause-text_enough
+returns-clause-text_enough c = λ f. elim f.each_runs.0.bodies_run.0.steps.2 [
+  | inl asked ↦ absurd cc
+  | inr before ↦ elim before [
+    | inl early ↦ absurd early
+    | inr killed ↦ absurd killed
+  ]
+]

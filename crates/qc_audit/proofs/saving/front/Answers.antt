@@ -1,4 +1,4 @@
-use Rattle.std.proofs.Common.{ℕ, ◌≡◌, ◌<◌, ◌^◌, length, ap, arith, sym, subst, Vec, Global}
+use Rattle.std.proofs.Common.{ℕ, ◌≡◌, ◌<◌, ◌^◌, length, ap, arith, sym, subst, Vec, Global, refl}
 use Rattle.std.specs.Prelude.{Result, Ok, Err, IfOk}
 use Rattle.qc_codec.specs.Bodies.{made, table}
 use Rattle.qc_codec.specs.Gives.{Spells}
@@ -14,7 +14,10 @@ short (Ok bytes) t copied same fits spelled = subst (λ n. n < 2 ^ 32) (sym (ap 
 short (Err e) t copied same fits spelled = tt
 
 pub write_made-requires : goal.write_made-requires
-write_made-requires c = record { proper = subst (λ (t : Table). made.fits (made_for 0 t)) (sym c.in_ok-table.ensures) (made_proper 0 c.args.table.now (omega arith) c.requires) }
+write_made-requires c = record {
+  proper = subst (λ (t : Table). made.fits (made_for 0 t)) (sym c.in_ok-table.ensures) (made_proper 0 c.args.table.now (omega arith) c.requires);
+  current = refl;
+}
 
 pub returns-clause-short : goal.returns-clause-short
 returns-clause-short c = short c.write_made.result c.args.table.now c.in_ok-table.table c.in_ok-table.ensures c.requires c.write_made.ensures

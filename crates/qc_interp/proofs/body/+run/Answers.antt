@@ -2,7 +2,7 @@ use Rattle.std.proofs.Common.{rules, inr, Ok, map, ◌∷◌, None, ◌≡◌, �
 use Rattle.std.specs.Prelude.{IfOk, IfErr, Some}
 use Rattle.qc_event.specs.declared.event.Kind.TheVariants as kind
 use Rattle.qc_script.specs.Client.{Client, ClientView, Made, HasJoined}
-use Rattle.qc_script.specs.Plan.{Plan, PlanFits, row_of}
+use Rattle.qc_script.specs.Plan.{Plan, PlanFits, manage_then, row_of}
 use Rattle.qc_script.specs.Steps.{put, plan_of, numbered}
 use Rattle.qc_interp.specs.Running.{Runs, WhyStop, Ended, CutOff, Acted, HasActed, HasLooked, Stepped, WentOn, child_step, TriesCame}
 use Rattle.qc_interp.specs.declared.stops.Finish.TheVariants as finish
@@ -255,7 +255,7 @@ pub act-returns-in-Set : goal.act-returns-in-Set
 act-returns-in-Set g t c =
     let v = g.T.Tx.view c.args.tx.now in
     let w = g.T.Tx.view c.manage-in-Set.new.tx in
-    let is = ap put c.in-Set.is ∙ put_set c.in-Set.rec c.in-Set.value in
+    let is = ap put c.in-Set.is ∙ put_set c.in-Set.rec c.in-Set.value ∙ ap (λ value. manage_then (kind.Write c.in-Set.rec value)) (sym c.val.ensures) in
     let both = acted_so c.args.of.now v.seen w.seen c.manage-in-Set.result c.manage-in-Set.ensures.client is c.manage-in-Set.ensures.ok c.manage-in-Set.ensures.cut in
     record { met = c.manage-in-Set.ensures.met; joined = joined_same _ _ _ c.manage-in-Set.ensures.client; ok = both.0; cut = both.1; room = c.manage-in-Set.ensures.room }
 

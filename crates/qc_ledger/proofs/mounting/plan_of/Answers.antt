@@ -24,4 +24,4 @@ returns-in_err-past-clause-fault c = λ limit.
     (subst (λ (m : Made). IsOfBytes m.who (Has m) c.in_err-past.field-0.0) c.in_ok-made.ensures.made (c.in_err-past.ensures.fault limit))
 
 pub write_ledger-requires : goal.write_ledger-requires
-write_ledger-requires c = record { proper = epoch_fits c.in_ok-past.past.epoch c.in_ok-past.ensures.epoch }
+write_ledger-requires c = record { proper = epoch_fits c.in_ok-past.past.epoch c.in_ok-past.ensures.epoch; current = tt }

@@ -8,5 +8,5 @@ use Rattle.qc_run.proofs.spelling.is_spelled.Goals as goal
 
 pub returns : goal.returns
 returns c = λ bytes is.
-    let small = subst (λ (rows : List Row). All (λ (row : Row). (datum current_format).fits row.start) rows) c.as_slice.ensures c.are_long.ensures in
+    let small = subst (λ (rows : List Row). All (λ (row : Row). (datum current_format).fits row.start) rows) c.as_slice.ensures c.starts_fit.ensures in
     spelled bytes (plan_of_script c.args.script.now) is c.requires small

@@ -2,8 +2,7 @@ use Rattle.std.proofs.Common.{arith, subst}
 use Rattle.std.specs.List.{All}
 use Rattle.std.proofs.lemmas.List.{take_all}
 use Rattle.std.proofs.lemmas.List.Elements.{All-more}
-use Rattle.qc_codec.proofs.Fits.{number_fits}
-use Rattle.qc_codec.specs.Fields.{current_format}
+use Rattle.qc_codec.proofs.Fits.{value_fits}
 use Rattle.qc_event.specs.Tables.{setting_of}
 use Rattle.qc_site.proofs.HeldFits.{IsTupleInRange, held_all_fit}
 use Rattle.qc_site.proofs.fits.held_to_fit.Goals as goal
@@ -14,7 +13,7 @@ loop-tuple-preserved g c =
     All-more IsTupleInRange c.args.held.now c.loop-tuple.tuple-index t c.loop-tuple-test.true c.loop-tuple.invariant
     (subst IsTupleInRange c.tuple-item.is (record {
       version = omega arith;
-      value = number_fits current_format t.value c.as_number-number.result c.as_number-number.ensures (omega arith);
+      value = value_fits t.value c.as_number-value.ensures.possible;
       generation = omega arith;
       config = record { votes = c.config_in_range.ensures.votes; read = c.config_in_range.ensures.read; write = c.config_in_range.ensures.write };
     }))

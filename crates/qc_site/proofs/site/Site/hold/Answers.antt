@@ -2,9 +2,11 @@ use Rattle.std.proofs.Common.{refl, sym, ◌∙◌, subst}
 use Rattle.std.specs.Prelude.{None, Ok, IsErrOf}
 use Rattle.qc_event.specs.Tables.{setting_of}
 use Rattle.qc_journal.specs.Journal.{disk_of}
+use Rattle.qc_ledger.specs.Entered.{AtMost}
 use Rattle.qc_ledger.specs.Runs.{CostsOnce}
 use Rattle.qc_desk.proofs.Seers.{older_trans}
 use Rattle.qc_desk.specs.Entries.{IsOlder}
+use Rattle.qc_site.specs.AtDesk.{hand_entries}
 use Rattle.qc_site.specs.Calls.{site_state}
 use Rattle.qc_site.specs.Log.{log_journal}
 use Rattle.qc_site.specs.declared.fault.SiteNo.TheVariants.{Disk}
@@ -97,3 +99,10 @@ pub returns-clause-counts_once : goal.returns-clause-counts_once
 returns-clause-counts_once g c =
     subst (λ l. CostsOnce (log_journal l) (log_journal c.rise.new.self.log) (IsErrOf (Ok c.in_ok-held.held) Disk)) c.show.ensures.log
     record { once = c.in_ok-rise.ensures.counts_once.once; spared = λ never. c.in_ok-rise.ensures.counts_once.spared (λ failed. absurd cc) }
+
+pub returns-clause-enters : goal.returns-clause-enters
+returns-clause-enters g c =
+    let mine = c.held.new.self.pass.mine in
+    subst (λ m. AtMost (hand_entries g.row.C c.args.self.now.replica.hand) m mine) c.show.ensures.looks.mine
+    (subst (λ h. AtMost (hand_entries g.row.C h) c.show.new.self.replica.pass.mine mine) c.show.ensures.hand
+    (subst (λ m. AtMost (hand_entries g.row.C c.show.new.self.replica.hand) c.show.new.self.replica.pass.mine m) (sym c.held.ensures.looks.mine) c.rise.ensures.enters))
