@@ -7,10 +7,11 @@ USAGE = "usage: qc run [--dir PATH] [--serial] [--trail] | qc gen N | qc audit\n
 NUMBER = r"(?:0|[1-9][0-9]{0,19})"
 NAME = r"[1-9][0-9]*/[1-9][0-9]*(?:\.[1-9][0-9]*)*"
 RECORD = r"[0-9A-Za-z]{1,16}"
+VALUE = rf"""(?:{NUMBER}|"(?:[^"\\\x00-\x1f]|\\["\\]|\\u00[01][0-9a-f])*")"""
 COPY = r"(?:[0-9]|1[0-5])"
 MEMBER = (
     "script|copies|patience|records|record|name|start|config|votes|read|write|sessions|session|net|fates|hold|tops|"
-    "body|tries|must|steps|step|levels|copy|branches"
+    "body|tries|must|steps|step|value|levels|copy|branches"
 )
 REFUSAL = rf"not json|too long|shape (?:{MEMBER})|limit (?:{MEMBER}) {NUMBER}|config [1-5]|(?:unknown|twice) {RECORD}"
 IMAGE = rf"broken at {NUMBER}|record {NUMBER} grammar|full at {NUMBER}|table|epoch {NUMBER}"
@@ -18,7 +19,8 @@ CAUSE = rf"asked {NAME}|conflict|noquorum|last|orphan {NAME}|killed|child {NAME}
 MISSING = rf"{COPY}:(?:lost|late|down|full|strange)"
 NOQUORUM = rf"(?:collect|values|configs) replied (?:-|{COPY}(?:,{COPY})*) missing (?:-|{MISSING}(?:,{MISSING})*)"
 ENTRIES = [
-    rf"(?:read|set|reconf) {NAME} {RECORD} {NUMBER}",
+    rf"(?:read|set) {NAME} {RECORD} {VALUE}",
+    rf"reconf {NAME} {RECORD} {NUMBER}",
     rf"commit {NAME}",
     rf"abort {NAME} (?:{CAUSE})",
     rf"conflict {NAME} {RECORD} copy {COPY} holder {NAME}",
@@ -26,7 +28,7 @@ ENTRIES = [
     rf"last {NAME} {RECORD}",
     rf"orphan {NAME} {RECORD} {NAME}",
 ]
-FINALS = rf"(?:final {RECORD} {NUMBER}\n)+"
+FINALS = rf"(?:final {RECORD} {VALUE}\n)+"
 TOPS = r"tops ([0-9]+) committed ([0-9]+) aborted ([0-9]+) doubt ([0-9]+)\n"
 SUMMARY = re.compile(FINALS + TOPS)
 REPORT = re.compile(rf"(?:(?:{'|'.join(ENTRIES)})\n)*((?:doubt {NAME}\n)*){FINALS}{TOPS}")
@@ -85,15 +87,28 @@ def fault_in(output):
     return int(words[0]), words[1].rstrip("\n")
 
 
-def told(output, word, name, value):
-    """The values that the lines of a word tell, by the records' names."""
-    lines = (line.split() for line in output.decode().splitlines() if line.startswith(word))
-    return {line[name]: int(line[value]) for line in lines}
+ESCAPE = re.compile(r'\\(?:(["\\])|u00(..))')
+FINAL = re.compile(rf"final ({RECORD}) ({VALUE})")
+READ = re.compile(rf"read {NAME} ({RECORD}) ({VALUE})")
+
+
+def value_of(told):
+    """What a report tells as a value: a number, or the bytes of a text."""
+    if told.isdigit():
+        return int(told)
+    text = ESCAPE.sub(lambda found: found[1] or chr(int(found[2], 16)), told[1:-1])
+    return text.encode("utf-8", "surrogateescape")
+
+
+def values_in(output, form):
+    """The values that the lines of a form tell, by the records' names."""
+    found = map(form.fullmatch, output.decode("utf-8", "surrogateescape").split("\n"))
+    return {line[1]: value_of(line[2]) for line in found if line}
 
 
 def finals_in(output):
-    return told(output, "final ", 1, 2)
+    return values_in(output, FINAL)
 
 
 def reads_in(output):
-    return told(output, "read ", 2, 3)
+    return values_in(output, READ)

@@ -11,6 +11,9 @@ from script_text import MOST_BYTES
 
 NAMES = ["x", "y", "r10", "Z9", "account1", "a" * 16]
 AMOUNTS = [0, 1, 5, 2**64 - 1]
+# Texts of each kind of byte, and some that look like numbers or lines.
+VALUES = [*AMOUNTS, "", "0", "hi", "a b", 'say "hi"', "\\u0041\\", "\0\t\n\x1f\x7f\x85", "\xe9\u2028\U0001f600", "\nfinal x 1"]
+LONGEST = ["x" * 1024, "\xe9" * 512, "\0" * 1024]
 LEAVES = ["read", "set", "add", "sub", "need", "reconf", "abort", "crash", "kill"]
 MOST_DEPTH = 4
 
@@ -25,11 +28,15 @@ def drawn_config(random, copies):
     return {"votes": votes, "read": random.randint(total + 1 - write, total), "write": write}
 
 
+def drawn_datum(random):
+    return random.choice(LONGEST if random.random() < 0.05 else VALUES)
+
+
 def drawn_table(random, most_copies):
     """The copies and records of a script."""
     copies = random.randint(1, most_copies)
     names = random.sample(NAMES, random.randint(1, 3))
-    records = [{"name": it, "start": random.choice(AMOUNTS), "config": drawn_config(random, copies)} for it in names]
+    records = [{"name": it, "start": drawn_datum(random), "config": drawn_config(random, copies)} for it in names]
     return {"copies": copies, "records": records}
 
 
@@ -43,6 +50,8 @@ def drawn_step(random, table, sessions, depth):
         return [word, name, drawn_config(random, table["copies"])]
     if word in ("abort", "crash", "kill"):
         return [word, random.randrange({"abort": depth, "crash": table["copies"], "kill": sessions}[word])]
+    if word == "set":
+        return [word, name, drawn_datum(random)]
     return [word, name] + [random.choice(AMOUNTS)] * (word != "read")
 
 
@@ -124,6 +133,7 @@ SPELLED = """-0 1.0 1.5 1e0 1E3 1e400 -1e400 1e-400 0.1e1 18446744073709551615.0
 1. .5 - 0x10 NaN Infinity tru nulL 'x' "\\ud800" "\\udc00" "\\ud800\\ud800" "\\udc00\\ud800" "\\ud83d\\ude00" "\\u0000"
 "\\u0078" "\\x" "\\u12" "\\ud800\\u0078" "x\\/y" "x\\u0020" "\x7f" "\xe9" "x" x // /**/""".split()
 TEXTS = ["", "x" * 16, "x" * 17, "\xe9" * 8, "a b", "d" * 64, "d" * 65, "d" * 64 + "x", "ddx", "read", "par", "0", "\t"]
+TEXTS += [*LONGEST, "x" * 1025, "x" + "\xe9" * 512]
 OTHERS = [None, True, False, Members(), [], [[]], [Members()], [1] * 64, [1] * 65, ["x", "x"]]
 LEVELS = [8, 16, 17, 60, 100, 120, 126, 127, 128, 129, 1000, 20000]
 MEMBERS = """copies patience records sessions name start config votes read write net tops fates hold tries must
@@ -247,8 +257,8 @@ WHOLE = (
     '{"copies":1,"records":[{"name":"x","start":0,"config":{"votes":[1],"read":1,"write":1}}],'
     '"sessions":[{"net":{"fates":"d"},"tops":[{"steps":[["read","x"]]}]}]}'
 )
-# What gives way to something large: a record's name, a step and a body.
-SPOTS = ['"x"', '["read","x"]', '{"steps":[["read","x"]]}']
+# What gives way to something large: a record's name, its start, a step and a body.
+SPOTS = ['"x"', "0", '["read","x"]', '{"steps":[["read","x"]]}']
 MANY = 100_000
 
 
@@ -296,12 +306,14 @@ def odd_texts():
         yield f"{byte} to the whole length", byte * MOST_BYTES
         yield f"{byte} behind a script", whole + byte
         yield f"{byte} in a name", whole.replace(b'"x"', b'"' + byte + b'"', 1)
+        yield f"{byte} in a start", whole.replace(b"0", b'"' + byte + b'"', 1)
     odd = [b"", b"\xef\xbb\xbf" + whole, WHOLE.encode("utf-16"), b"\xc0\x80", b"\xed\xa0\x80", b"\xf4\x90\x80\x80"]
     odd += [b"\xe2\x82", rb"\ud800", rb"\udc00", rb"\udc00\ud800", rb"\ud800\ud800", rb"\ud800x", rb"\ud83d\ude00"]
     odd += [rb"\u0000", rb"\uD80", rb"\u"]
     for bytes in odd:
         yield f"{bytes[:12]} alone", bytes
         yield f"{bytes[:12]} as a name", whole.replace(b'"x"', b'"' + bytes[:20] + b'"', 1)
+        yield f"{bytes[:12]} as a start", whole.replace(b"0", b'"' + bytes[:20] + b'"', 1)
         yield f"{bytes[:12]} as a member", whole.replace(b'"copies"', b'"' + bytes[:20] + b'"', 1)
 
 

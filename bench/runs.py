@@ -53,9 +53,9 @@ def words(program, folder):
 
 
 def run(program, folder, script, **options):
-    """The status and the output of a run over a folder."""
+    """The status and the output of a run over a folder, in which bytes that are no UTF-8 are single surrogates."""
     ran = subprocess.run(words(program, folder), input=script.encode(), stdout=subprocess.PIPE, check=False, **options)
-    return ran.returncode, ran.stdout.decode()
+    return ran.returncode, ran.stdout.decode("utf-8", "surrogateescape")
 
 
 def short_files(most, is_killed=False):

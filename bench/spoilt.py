@@ -83,11 +83,18 @@ def difference(before, after, wanted):
 # WHAT A REFUSED RUN LEAVES
 
 
+def spelled(value):
+    """The bytes of a value."""
+    if isinstance(value, int):
+        return b"\0" + value.to_bytes(8, "big")
+    return b"\1" + len(value).to_bytes(2, "big") + value
+
+
 def made_body(script, disk):
     """The body of the record that says how a disk was made for a script's table."""
     body = b"\1\2" + bytes([disk, script.copies, len(script.records)])
     for name, (start, (votes, read, write)) in script.records.items():
-        body += bytes([len(name)]) + name.encode() + b"\0" + start.to_bytes(8, "big") + bytes([len(votes), *votes])
+        body += bytes([len(name)]) + name.encode() + spelled(start) + bytes([len(votes), *votes])
         body += read.to_bytes(2, "big") + write.to_bytes(2, "big")
     return body
 
@@ -192,12 +199,21 @@ class Left:
 # WHAT A RUN THAT ENDED HAS FOLDED
 
 
+def value_at(body, place):
+    """The value that stands at a place, a number or the bytes of a text, and the place behind it."""
+    if body[place] == 0:
+        return number_in(body[place + 1 : place + 9]), place + 9
+    end = place + 3 + number_in(body[place + 1 : place + 3])
+    return body[place + 3 : end], end
+
+
 def tuples_in(image, records):
     """What the base of a copy's journal has of each record: version, value, generation and configuration."""
     base, at, tuples = base_in(image), 13, []
     for _ in range(records):
-        end = at + 26 + base[at + 25] + 4
-        tuples.append((*(number_in(base[place : place + 8]) for place in (at, at + 9, at + 17)), base[at + 25 : end]))
+        value, behind = value_at(base, at + 8)
+        end = behind + 13 + base[behind + 8]
+        tuples.append((number_in(base[at : at + 8]), value, number_in(base[behind : behind + 8]), base[behind + 8 : end]))
         at = end
     return tuples
 

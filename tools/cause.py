@@ -8,7 +8,7 @@ import sys
 
 sys.dont_write_bytecode = True
 sys.path.insert(0, os.path.dirname(os.path.abspath(__file__)))
-from script_text import MOST_BYTES, Refused, read_script
+from script_text import MOST_BYTES, Refused, quoted, read_script
 
 MOST_COPIES = 16
 # What a disk's number and that of its spare differ by: so many disks may have spares.
@@ -16,7 +16,7 @@ SPARE = MOST_COPIES + 1
 # A file that says that spares of the folder had bytes once.
 USED = "spares"
 GATES = (b"\x00", b"\x01")
-# How a record begins that says how a disk was made, in either format. In the second 00 stands before a value.
+# How a record begins that says how a disk was made, in either format.
 MADE = (b"\x01\x01", b"\x01\x02")
 BASE = b"\x04"
 KINDS = {stat.S_IFDIR: "a folder", stat.S_IFIFO: "a pipe", stat.S_IFSOCK: "a socket"}
@@ -43,7 +43,7 @@ class Table:
 
 def parts(record):
     name, (start, (votes, read, write)) = record
-    return name, start, f"votes {votes}, read {read}, write {write}"
+    return name, quoted(start), f"votes {votes}, read {read}, write {write}"
 
 
 def size_of(path):
@@ -95,13 +95,23 @@ def active_in(folder, disk):
     return max((disk, disk + SPARE), key=lambda number: fold_on(os.path.join(folder, str(number))))
 
 
+def value_in(body, at):
+    """The value that stands at a place, and the place behind it: in the second format 00 and a number, or 01 and a text."""
+    if body[1] == 1:
+        return int.from_bytes(body[at : at + 8], "big"), at + 8
+    if body[at] == 0:
+        return int.from_bytes(body[at + 1 : at + 9], "big"), at + 9
+    end = at + 3 + int.from_bytes(body[at + 1 : at + 3], "big")
+    return body[at + 3 : end], end
+
+
 def table_in(body):
     copies, count, at, records = body[3], body[4], 5, {}
     for _ in range(count):
         name = body[at + 1 : at + 1 + body[at]].decode("ascii")
-        at += body[at] + body[1]
-        start, voters = int.from_bytes(body[at : at + 8], "big"), body[at + 8]
-        at += 9 + voters
+        start, at = value_in(body, at + 1 + body[at])
+        voters = body[at]
+        at += 1 + voters
         votes, read, write = [*body[at - voters : at]], body[at : at + 2], body[at + 2 : at + 4]
         records[name] = start, (votes, int.from_bytes(read, "big"), int.from_bytes(write, "big"))
         at += 4

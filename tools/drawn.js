@@ -45,7 +45,7 @@ const Drawn = (() => {
     };
   }
 
-  const spell = (tuple) => JSON.stringify(tuple, (_, value) => (typeof value === "bigint" ? String(value) : value));
+  const spell = (tuple) => JSON.stringify(tuple, (_, value) => (typeof value === "bigint" ? `${value}n` : value));
 
   // What copies hold and who holds locks by a history that has come so far, and by the state at its last entry.
   function compare(history) {
@@ -85,7 +85,7 @@ const Drawn = (() => {
   function finals() {
     const { table, order } = Page.at.trail;
     const values = order.valuesAfter(order.events.length);
-    return values.map((value, record) => `final ${table.records[record].name} ${value}\n`).join("");
+    return values.map((value, record) => `final ${table.records[record].name} ${Values.spell(value)}\n`).join("");
   }
 
   const bytesOf = (text) => Uint8Array.from(atob(text), (sign) => sign.charCodeAt(0));

@@ -12,8 +12,7 @@ class Steps:
 
     def __init__(self, saved):
         self.saved, self.at = saved, 0
-        # a value is a number, which has 00 before it from the second format on
-        self.value = 8 if saved[5] == 1 else 9
+        self.is_first_format = saved[5] == 1
 
     def take(self, count):
         self.at += count
@@ -29,26 +28,40 @@ class Steps:
         votes = self.take(1)
         self.at += votes + 4
 
+    def value(self):
+        """A number, or from the second format on what the byte before it tells: a number or a text with its length."""
+        is_text = not self.is_first_format and self.take(1) == 1
+        length = self.take(2) if is_text else 8
+        self.at += length
+
     def tuple(self):
-        self.at += 16 + self.value
+        self.at += 8
+        self.value()
+        self.at += 8
         self.config()
 
     def kind(self):
         kind = self.take(1)
-        self.at += {0: 5, 1: 1, 2: 1 + self.value, 3: 1, 4: 0}[kind]
+        self.at += {0: 5, 1: 1, 2: 1, 3: 1, 4: 0}[kind]
+        if kind == 2:
+            self.value()
         if kind == 3:
             self.config()
 
     def operation(self):
         operation = self.take(1)
-        self.at += {0: 0, 1: 8 + self.value, 2: 8}[operation]
+        self.at += {0: 0, 1: 8, 2: 8}[operation]
+        if operation == 1:
+            self.value()
         if operation == 2:
             self.config()
 
     def end(self):
         if self.take(1) == 0:
             answer = self.take(1)
-            self.at += {0: 0, 1: self.value, 2: 8, 3: 0}[answer]
+            self.at += {0: 0, 1: 0, 2: 8, 3: 0}[answer]
+            if answer == 1:
+                self.value()
             if answer == 3:
                 self.tuple()
             return "commit"
@@ -140,36 +153,48 @@ def shortened(saved):
 
 
 CONFIG = bytes((1, 1)) + struct.pack(">HH", 1, 1)
+# Texts of each kind of byte, short and long.
+TEXTS = [b"", b'a"b\\c', bytes(range(32)), b"\x7f\xc3\xa9\xf0\x9f\x98\x80", b"\xff\xc3 <b>&", b"x" * 1024]
 
 
 def number(value):
     return struct.pack(">BQ", 0, value)
 
 
+def text(value):
+    return struct.pack(">BH", 1, len(value)) + value
+
+
+def number_or_text(count):
+    """A text for an even number, and an odd one as it is."""
+    return number(count) if count % 2 else text(TEXTS[count // 2 % len(TEXTS)])
+
+
 def tuple_of(version, value):
-    return struct.pack(">Q", version) + number(value) + struct.pack(">Q", 0) + CONFIG
+    return struct.pack(">Q", version) + value + struct.pack(">Q", 0) + CONFIG
 
 
 def name_of(top, *rest):
     return struct.pack(">BQ", 1 + len(rest), (1 << 32) + top) + b"".join(struct.pack(">I", number) for number in rest)
 
 
-def made(count, sessions=4):
-    """A legal trail of at least so many entries over a copy: sessions in turn, whose tops each add one to a record."""
+def made(count, sessions=4, value_of=number):
+    """A legal trail of at least so many entries over a copy: sessions in turn, whose tops each read a record and set it.
+    A record's first value is that of 0, and each further one that of the next number."""
     holds = [0] * sessions
     versions = [0] * sessions
-    labels = b"".join(b"\x02r%d" % record + number(0) + CONFIG for record in range(sessions))
+    labels = b"".join(b"\x02r%d" % record + value_of(0) + CONFIG for record in range(sessions))
     body = bytes((1, 2, 0, 1, sessions)) + labels
-    base = bytes((1, sessions)) + tuple_of(0, 0) * sessions
+    base = bytes((1, sessions)) + tuple_of(0, value_of(0)) * sessions
     written, top = [], 0
 
     def put(seat, tag, *parts):
         written.append(struct.pack(">IB", seat, tag) + b"".join(parts))
 
     def access(seat, record, name, operation):
-        version, value = versions[record], holds[record]
+        version, value = versions[record], value_of(holds[record])
         told = tuple_of(version, value)
-        ask = b"\0" if operation == 0 else b"\1" + struct.pack(">Q", version) + number(value)
+        ask = b"\0" if operation == 0 else b"\1" + struct.pack(">Q", version) + value
         put(seat, 1, name, b"\4")
         put(seat, 2, name, bytes((0, record)), ask)
         put(2, 4, b"\0", name, bytes((record, operation)), told)
@@ -182,8 +207,8 @@ def made(count, sessions=4):
         put(seat, 1, name_of(top), bytes((0, record)), struct.pack(">I", 0))
         put(seat, 1, name_of(top, 1), bytes((1, record)))
         access(seat, record, name_of(top, 1, 1), 0)
-        put(seat, 7, name_of(top, 1), b"\0\1", number(holds[record]))
-        put(seat, 1, name_of(top, 2), bytes((2, record)), number(holds[record] + 1))
+        put(seat, 7, name_of(top, 1), b"\0\1", value_of(holds[record]))
+        put(seat, 1, name_of(top, 2), bytes((2, record)), value_of(holds[record] + 1))
         access(seat, record, name_of(top, 2, 1), 0)
         holds[record] += 1
         versions[record] += 1

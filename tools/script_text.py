@@ -3,6 +3,8 @@ no script what refuses it and where. That it refuses what qc does, and for the s
 from json_text import NotJson, Reader, line_and_column
 
 MOST_BYTES = 1 << 20
+MOST_TEXT = 1024
+ESCAPED = {byte: f"\\u{byte:04x}" for byte in range(32)} | {ord(sign): f"\\{sign}" for sign in '"\\'}
 LETTERS = set("0123456789ABCDEFGHIJKLMNOPQRSTUVWXYZabcdefghijklmnopqrstuvwxyz")
 BAD_CONFIG = {
     1: "there are no votes",
@@ -56,6 +58,19 @@ class Spot:
             self.refuse(f"shape {word}", "a whole number is wanted, in digits alone and below 2^64")
         return number
 
+    def datum(self, word):
+        """A record's value: a number, or the bytes of a text, which may be too long."""
+        if self.value.kind == "text":
+            return self.value.content.encode()
+        number = self.value.number()
+        if number is None:
+            self.refuse(f"shape {word}", "a text is wanted, or a whole number in digits alone and below 2^64")
+        return number
+
+    def check_length(self, word, datum):
+        if isinstance(datum, bytes):
+            self.within(word, 0, MOST_TEXT, len(datum), "the length of the text in bytes")
+
     def within(self, word, low, high, number, what="the number"):
         if not low <= number <= high:
             self.refuse(f"limit {word} {number}", f"{what} is {number}, and {low} to {high} are allowed")
@@ -74,6 +89,13 @@ class Spot:
         if self.value.kind != "text":
             self.refuse(f"shape {word}", "a text is wanted")
         return self.value.content
+
+
+def quoted(datum):
+    """A record's value as a report has it. What is no UTF-8 stands in it as single surrogates."""
+    if isinstance(datum, int):
+        return str(datum)
+    return f'"{datum.decode("utf-8", "surrogateescape").translate(ESCAPED)}"'
 
 
 def shown(name):
@@ -106,7 +128,8 @@ class Script:
         for row in rows:
             row.check_object("record", ["name", "start", "config"])
             name = self.new_name(row.member("name"))
-            start = row.member("start").number("start")
+            start = row.member("start").datum("start")
+            row.member("start").check_length("start", start)
             self.records[name] = start, self.config(row.member("config"))
 
     def new_name(self, spot):
@@ -193,6 +216,11 @@ class Script:
     def check_read(self, parts, depth, around):
         self.known(parts[1], self.name_of(parts[1]))
 
+    def check_set(self, parts, depth, around):
+        name, value = self.name_of(parts[1]), parts[2].datum("step")
+        self.known(parts[1], name)
+        parts[2].check_length("value", value)
+
     def check_amount(self, parts, depth, around):
         name = self.name_of(parts[1])
         parts[2].number("step")
@@ -246,7 +274,7 @@ def bad_config(total, read, write):
 # How many elements a step has, its word among them, and what looks at them.
 STEPS = {
     "read": (2, Script.check_read),
-    "set": (3, Script.check_amount),
+    "set": (3, Script.check_set),
     "add": (3, Script.check_amount),
     "sub": (3, Script.check_amount),
     "need": (3, Script.check_amount),

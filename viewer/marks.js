@@ -1,6 +1,7 @@
 // The short texts in the picture: what stands in a box at an entry, and beside a copy.
 const Marks = (() => {
   const { NEVER } = Histories;
+  const { short } = Values;
 
   const shortCause = (cause) => {
     switch (cause.what) {
@@ -41,7 +42,7 @@ const Marks = (() => {
       case "read":
         return `read ${record}`;
       case "write":
-        return `write ${record} = ${event.kind.value}`;
+        return `write ${record} = ${short(event.kind.value)}`;
       case "reconf":
         return `new votes for ${record}`;
       default:
@@ -52,7 +53,7 @@ const Marks = (() => {
   function operationMark(trail, record, operation) {
     const name = Words.recordName(trail, record);
     if (operation.what === "get") return name;
-    if (operation.what === "data") return `${name} = ${operation.value}, v${operation.version}`;
+    if (operation.what === "data") return `${name} = ${short(operation.value)}, v${operation.version}`;
     const { votes, read, write } = operation.config;
     return `${name}: ${votes.join(",")} r${read} w${write}, g${operation.generation}`;
   }
@@ -60,11 +61,11 @@ const Marks = (() => {
   function commitMark(trail, node, answer) {
     if (node.isUser) return node.parent ? "commits" : "committed";
     const record = Words.recordName(trail, (node.isAccess ? node.parent : node).kind.record);
-    if (answer.what === "value") return `${record} is ${answer.value}`;
+    if (answer.what === "value") return `${record} is ${short(answer.value)}`;
     if (answer.what === "generation") return `${record} has generation ${answer.generation}`;
     if (answer.what === "reply" && node.operation.what !== "get") return `copy ${node.copy} took it`;
-    if (answer.what === "reply") return `copy ${node.copy} has ${answer.tuple.value}, v${answer.tuple.version}`;
-    return `${record} set to ${node.kind.value}`;
+    if (answer.what === "reply") return `copy ${node.copy} has ${short(answer.tuple.value)}, v${answer.tuple.version}`;
+    return `${record} set to ${short(node.kind.value)}`;
   }
 
   function accessCause(access, cause) {
@@ -104,7 +105,7 @@ const Marks = (() => {
     if (event.what === "refusal") return `refused: lock of ${event.of}`;
     if (event.what === "unable") return `unable: ${event.why}`;
     const name = Words.recordName(trail, event.record);
-    if (event.operation.what === "get") return `${name} is ${event.tuple.value}, v${event.tuple.version}`;
+    if (event.operation.what === "get") return `${name} is ${short(event.tuple.value)}, v${event.tuple.version}`;
     return `takes ${operationMark(trail, event.record, event.operation)}`;
   }
 

@@ -1,6 +1,7 @@
 // What stands beside the picture: the chosen entry, what is behind it, and how things stood there.
 const Panel = (() => {
   const { escape } = Shapes;
+  const { spell, short } = Values;
   const MOST_LINES = 60;
   const SHOWN_READS = 8;
 
@@ -59,8 +60,8 @@ const Panel = (() => {
   function cell(tuple, copy) {
     const { value, version, generation, config } = tuple;
     const votes = `${config.votes[copy]} vote${config.votes[copy] === 1 ? "" : "s"}`;
-    const title = `version ${version}, generation ${generation}: ${Words.configWords(config)}`;
-    return `<td title="${title}"><b>${value}</b><br><small>v${version} g${generation} ${votes}</small></td>`;
+    const title = `${spell(value)}, version ${version}, generation ${generation}: ${Words.configWords(config)}`;
+    return `<td title="${escape(title)}"><b>${escape(short(value))}</b><br><small>v${version} g${generation} ${votes}</small></td>`;
   }
 
   function holdings(trail, place, record) {
@@ -83,7 +84,7 @@ const Panel = (() => {
   }
 
   function readText(trail, read) {
-    return `${escape(Words.recordName(trail, read.kind.record))} = ${trail.entry(read.end).answer.value}`;
+    return `${Words.recordName(trail, read.kind.record)} = ${short(trail.entry(read.end).answer.value)}`;
   }
 
   function open(trail, place) {
@@ -102,7 +103,10 @@ const Panel = (() => {
 
   function values(trail, place) {
     const found = trail.order.valuesAfter(trail.order.lengthAt(place));
-    const value = ({ name }, record) => `<span class="value">${escape(name)} = <b>${found[record]}</b></span>`;
+    const value = ({ name }, record) => {
+      const kept = `${escape(name)} = <b>${escape(short(found[record]))}</b>`;
+      return `<span class="value" title="${escape(spell(found[record]))}">${kept}</span>`;
+    };
     return `<p>${trail.table.records.map(value).join(" ")}</p>`;
   }
 

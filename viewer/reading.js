@@ -1,8 +1,9 @@
-// Reads the bytes of a saved trail, as docs/FORMATS.md tells them. Values, versions and generations have 64 bits, so
-// they are BigInts. A name is the text that a report has of it, as 1/3.1.2.
+// Reads the bytes of a saved trail, as docs/FORMATS.md tells them. Versions, generations and values that are numbers have
+// 64 bits, so they are BigInts. A name is the text that a report has of it, as 1/3.1.2.
 const Reading = (() => {
   const MOST_BYTES = 2 ** 28;
   const LONGEST_NAME = 18;
+  const LONGEST_TEXT = 1024;
   const PHASES = ["collect", "values", "configs"];
   const REASONS = [null, "lost", "late", "down", "full", "strange"];
 
@@ -85,11 +86,18 @@ const Reading = (() => {
       return { votes, read, write };
     }
 
-    // A number, which has 00 before it from the second format on.
+    // A number, which has 00 before it from the second format on, or a text behind 01.
     value(what) {
       const tag = this.format > 1 ? this.byte(what) : 0;
-      if (tag !== 0) this.fail(`${tag} is no value`, this.at - 1);
-      return this.long(what);
+      if (tag > 1) this.fail(`${tag} is no value`, this.at - 1);
+      return tag === 1 ? this.text(what) : this.long(what);
+    }
+
+    text(what) {
+      const count = this.half(what);
+      if (count > LONGEST_TEXT) this.fail(`a text has ${count} bytes`, this.at - 2);
+      const from = this.take(count, what);
+      return String.fromCharCode(...this.bytes.subarray(from, from + count));
     }
 
     tuple(copies) {

@@ -90,7 +90,7 @@ const Serial = (() => {
     line(event) {
       const { what, node, value } = event;
       if (value === undefined) return `${what} ${node.name}`;
-      return `${what} ${node.name} ${this.history.table.records[node.kind.record].name} ${value}`;
+      return `${what} ${node.name} ${this.history.table.records[node.kind.record].name} ${Values.spell(value)}`;
     }
   }
 

@@ -34,8 +34,12 @@ const Shapes = (() => {
   // A text, cut where it has no room.
   function fit(text, room, size) {
     if (wide(text, size) <= room) return text;
-    let kept = text;
-    while (kept && wide(`${kept}…`, size) > room) kept = kept.slice(0, -1);
+    let [kept, left] = ["", room - wide("…", size)];
+    for (const sign of text) {
+      left -= wide(sign, size);
+      if (left < 0) break;
+      kept += sign;
+    }
     return kept ? `${kept}…` : "";
   }
 

@@ -1,12 +1,13 @@
 // What entries, boxes and arrows are, in words.
 const Words = (() => {
   const { NEVER } = Histories;
+  const { spell } = Values;
   const TAKEN = { collect: "collect", values: "write the value", configs: "write the configuration" };
 
   const list = (items) => (items.length > 1 ? `${items.slice(0, -1).join(", ")} and ${items.at(-1)}` : items.join(""));
   const recordName = (trail, record) => trail.table.records[record]?.name ?? `record ${record}`;
   const configWords = (config) => `votes ${config.votes.join(",")}, read ${config.read}, write ${config.write}`;
-  const tupleWords = (trail, record, tuple) => `${recordName(trail, record)} is ${tuple.value}, version ${tuple.version}`;
+  const tupleWords = (trail, record, tuple) => `${recordName(trail, record)} is ${spell(tuple.value)}, version ${tuple.version}`;
   const marked = (copies) => [...Array(16).keys()].filter((copy) => (copies >> copy) & 1);
 
   // WHAT BECAME OF A REQUEST
@@ -95,7 +96,7 @@ const Words = (() => {
   function operationWords(trail, record, operation) {
     const name = recordName(trail, record);
     if (operation.what === "get") return `for ${name}`;
-    if (operation.what === "data") return `to take ${name} = ${operation.value}, version ${operation.version}`;
+    if (operation.what === "data") return `to take ${name} = ${spell(operation.value)}, version ${operation.version}`;
     return `to take ${configWords(operation.config)} for ${name}, generation ${operation.generation}`;
   }
 
@@ -107,7 +108,7 @@ const Words = (() => {
       case "read":
         return `a read of ${name}`;
       case "write":
-        return `a write of ${kind.value} to ${name}`;
+        return `a write of ${spell(kind.value)} to ${name}`;
       case "reconf":
         return `a change of ${name} to ${configWords(kind.config)}`;
       default:
@@ -117,10 +118,10 @@ const Words = (() => {
 
   function answerWords(trail, node, record, answer) {
     const name = recordName(trail, record);
-    if (answer.what === "value") return `${name} is ${answer.value}`;
+    if (answer.what === "value") return `${name} is ${spell(answer.value)}`;
     if (answer.what === "reply") return `at copy ${node.copy} ${tupleWords(trail, record, answer.tuple)}`;
     if (answer.what === "generation") return `${name} has generation ${answer.generation}`;
-    return `${name} is set to ${node.kind.value}`;
+    return `${name} is set to ${spell(node.kind.value)}`;
   }
 
   function endWords(trail, event) {
@@ -137,7 +138,7 @@ const Words = (() => {
     const whom = `${event.name}${place > trail.history.nodes.get(event.name).gone ? ", too late" : ""}`;
     const name = recordName(trail, record);
     if (operation.what === "get") return `copy ${copy} answers ${whom}: ${tupleWords(trail, record, tuple)}`;
-    const data = `${name} = ${tuple.value}, version ${tuple.version}`;
+    const data = `${name} = ${spell(tuple.value)}, version ${tuple.version}`;
     const config = `${configWords(tuple.config)} for ${name}, generation ${tuple.generation}`;
     return `copy ${copy} takes ${operation.what === "data" ? data : config}, from ${whom}`;
   }
