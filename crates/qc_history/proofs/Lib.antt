@@ -3,6 +3,7 @@ pub mod Spots
 pub mod Finding
 pub mod Changing
 pub mod Pushing
+mod Outlines
 pub mod Children
 pub mod Looking
 pub mod OpenTops

@@ -1,5 +1,5 @@
 -- What is told of names by a look.
-use Rattle.std.specs.Prelude.{ℕ, Bool, false, Option, None, Some, option_and_then}
+use Rattle.std.specs.Prelude.{ℕ, Bool, true, false, Option, None, Some, option_and_then}
 use Rattle.std.specs.Option.{option_map_or}
 use Rattle.qc_event.specs.Base.{Setting}
 use Rattle.qc_event.specs.Legal.{Legal}
@@ -12,6 +12,11 @@ use Rattle.qc_event.specs.Users.{is_marked, top_number}
 abbrev pub session_of : Kind → Option ℕ
 session_of (kind.User session body) = Some session
 session_of _ = None
+
+-- whether a name was started as an access
+abbrev pub is_of_access : Option Kind → Bool
+is_of_access (Some kind.Access) = true
+is_of_access _ = false
 
 -- whether a user transaction's session is marked, by a top with at least the number of its own
 abbrev pub is_marked_for : Past → Name → Bool

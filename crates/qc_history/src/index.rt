@@ -3,16 +3,19 @@ ghost use Rattle.std.specs.Prelude.{◌≡◌, ◌≤◌, ◌<◌, ◌+◌, ◌-
 ghost use Rattle.qc_event.specs.Dead as dead_words;
 ghost use Rattle.qc_event.specs.History.{limit, children};
 ghost use Rattle.qc_event.specs.declared.event.Entry.{Entry};
+ghost use Rattle.qc_event.specs.declared.event.Event.TheVariants as event;
 ghost use Rattle.qc_event.specs.declared.event.How.{How};
 ghost use Rattle.qc_event.specs.declared.event.Kind.{Kind};
 ghost use Rattle.qc_history.specs.Index.{IsOf, no_index};
 ghost use Rattle.qc_history.specs.Places.{place};
 ghost use Rattle.qc_history.specs.Spots as spots;
 ghost use Rattle.qc_history.specs.Standing.{OfEach, Grows};
+ghost use Rattle.qc_trail.specs.Outline.{outline_of};
 
 use crate::nodes::{Node, Nodes};
 use crate::steps::Steps;
-use qc_event::{Entry, Event, How, Name, Outcome};
+use qc_event::{Entry, Name, Outcome};
+use qc_trail::Outline;
 use std::alloc::{AllocError, Global};
 use std::collections::BTreeMap;
 use std::marker::{Brand, Model};
@@ -165,7 +168,7 @@ impl Index {
     fn add(&mut self, name: &Name) -> Result<(), AllocError>
         requires { self.old.count < limit }
         ensures ok { OnOk result ((e : Entry) (kind : Kind) →
-            e.event ≡ Event.Start name.now kind → Grows (IsOf self.old) (IsOf self.new) e) }
+            e.event ≡ event.Start name.now kind → Grows (IsOf self.old) (IsOf self.new) e) }
         ensures count { OnOk result (self.new.count ≡ self.old.count + 1) }
         ensures err { OnErr result (self.new ≡ self.old) }
     {
@@ -192,7 +195,7 @@ impl Index {
     fn close(&mut self, name: &Name, outcome: Outcome)
         requires { self.old.count < limit }
         ensures count { self.new.count ≡ self.old.count + 1 }
-        ensures index { (e : Entry) (how : How) → e.event ≡ Event.End name.now how →
+        ensures index { (e : Entry) (how : How) → e.event ≡ event.End name.now how →
             outcome ≡ dead_words.outcome_of (Some how) → Grows (IsOf self.old) (IsOf self.new) e }
     {
         if let Some(at) = self.place(name) {
@@ -204,13 +207,32 @@ impl Index {
     fn make_ready(&mut self, top: &Name)
         requires { self.old.count < limit }
         ensures count { self.new.count ≡ self.old.count + 1 }
-        ensures index { (e : Entry) → e.event ≡ Event.Ready top.now →
+        ensures index { (e : Entry) → e.event ≡ event.Ready top.now →
             Grows (IsOf self.old) (IsOf self.new) e }
     {
         if let Some(at) = self.place(top) {
             self.nodes.set_ready(at, self.count);
         }
         self.count += 1;
+    }
+
+    /// Takes in an entry that may come next, by what it is of. An error leaves all as it was.
+    pub fn take_in(&mut self, outline: &Outline) -> Result<(), AllocError>
+        requires { self.old.count < limit }
+        ensures ok { OnOk result ((e : Entry) → outline.now ≡ outline_of e.event →
+            Grows (IsOf self.old) (IsOf self.new) e) }
+        ensures count { OnOk result (self.new.count ≡ self.old.count + 1) }
+        ensures err { OnErr result (self.new ≡ self.old) }
+    {
+        match outline {
+            Outline::Start { name } => self.add(name)?,
+            Outline::StartAccess { name } => self.add(name)?,
+            Outline::Commit { name } => self.close(name, Outcome::Committed),
+            Outline::Abort { name } => self.close(name, Outcome::Aborted),
+            Outline::Ready { top } => self.make_ready(top),
+            Outline::Put | Outline::Other => self.count += 1,
+        }
+        Ok(())
     }
 
     /// Takes in an entry that may come next. An error leaves all as it was.
@@ -220,27 +242,7 @@ impl Index {
         ensures count { OnOk result (self.new.count ≡ self.old.count + 1) }
         ensures err { OnErr result (self.new ≡ self.old) }
     {
-        match &entry.event {
-            Event::Start { name, .. } => self.add(name)?,
-            Event::End { name, how } => self.close(name, outcome_of(how)),
-            Event::Ready { top } => self.make_ready(top),
-            Event::Ask(_)
-            | Event::Gone { .. }
-            | Event::Granted { .. }
-            | Event::Refused { .. }
-            | Event::Unable { .. }
-            | Event::Mark { .. } => self.count += 1,
-        }
-        Ok(())
-    }
-}
-
-fn outcome_of(how: &How) -> Outcome
-    ensures { result ≡ dead_words.outcome_of (Some how.now) }
-{
-    match how {
-        How::Commit(_) => Outcome::Committed,
-        How::Abort(_) => Outcome::Aborted,
+        self.take_in(&Outline::of(&entry.event))
     }
 }
 

@@ -7,6 +7,7 @@ ghost use Rattle.qc_event.specs.History as history;
 ghost use Rattle.qc_event.specs.Legal.{Legal};
 ghost use Rattle.qc_event.specs.Standing.{open_child};
 ghost use Rattle.qc_history.specs.Index.{IsOf};
+ghost use Rattle.qc_history.specs.Looking.{is_of_access};
 ghost use Rattle.qc_history.specs.Places.{IsWhere, place, spot_of};
 ghost use Rattle.qc_history.specs.Spots as spots;
 ghost use Rattle.qc_history.specs.Standing.{OfEach};
@@ -14,7 +15,7 @@ ghost use Rattle.qc_history.specs.Standing.{OfEach};
 use crate::index::Index;
 use crate::nodes::Node;
 use qc_event::{Entry, Event, Kind, Name};
-use qc_trail::Trail;
+use qc_trail::{Outline, Trail};
 
 // What a name was started for, where the entry is its start.
 fn kind_in(entry: &Entry, n: &Name) -> Option<Kind>
@@ -93,6 +94,20 @@ impl Index {
         match entries.get(at as usize) {
             Some(entry) => kind_in(&entry, name),
             None => None,
+        }
+    }
+
+    /// Whether a name was started as an access. It builds no event.
+    pub fn is_access(&self, entries: &Trail, name: &Name) -> bool
+        ensures { (setting : Setting) → IsOf self.now (reverse entries.now) →
+            Legal setting (reverse entries.now) →
+            result ≡ is_of_access (history.kind_of (reverse entries.now) name.now) }
+    {
+        match self.start(name) {
+            Some(at) if (at as usize) < entries.len() => {
+                matches!(entries.outline(at as usize), Outline::StartAccess { .. })
+            }
+            _ => false,
         }
     }
 

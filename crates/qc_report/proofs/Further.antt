@@ -1,5 +1,5 @@
 -- The entries so far and their lines, one entry further.
-use Rattle.std.proofs.Common.{◌≡◌, ℕ, zero, suc, ◌+◌, List, [], ◌∷◌, ◌++◌, take, get_or, ap, sym, ◌∙◌, append-nil}
+use Rattle.std.proofs.Common.{◌≡◌, ℕ, zero, suc, ◌+◌, ◌<◌, List, length, refl, arith, [], ◌∷◌, ◌++◌, take, get_or, ap, sym, ◌∙◌, append-nil}
 use Rattle.std.specs.Prelude.{Some, slice_get}
 use Rattle.std.specs.List.{flat_map}
 use Rattle.std.proofs.lemmas.Grind.{flat_map-append}
@@ -13,6 +13,12 @@ pub read_there : {X : Type 0} → (xs : List X) (i : ℕ) (x : X) → slice_get 
 read_there [] i x is = absurd cc
 read_there (y ∷ xs) zero x is = sym (same_Some y x is)
 read_there (y ∷ xs) (suc i) x is = read_there xs i x is
+
+-- something stands at each place within
+pub something_at : {X : Type 0} → (xs : List X) (i : ℕ) → i < length xs → (x : X) × (slice_get xs i ≡ Some x)
+something_at [] i lt = absurd (omega (arith, lt))
+something_at (x ∷ xs) zero lt = (x, refl)
+something_at (x ∷ xs) (suc i) lt = something_at xs i (omega (arith, lt))
 
 pub entries_further : (es : List Entry) (i : ℕ) (e : Entry) → slice_get es i ≡ Some e → take i es ++ e ∷ [] ≡ take (i + 1) es
 entries_further es i e here = ap (λ x. take i es ++ x ∷ []) (read_there es i e here) ∙ sym (take_more es i e (slice_get_within es i e here))

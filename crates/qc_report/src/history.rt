@@ -5,9 +5,10 @@ ghost use Rattle.qc_event.specs.Dead as dead_words;
 ghost use Rattle.qc_event.specs.History.{kind_of};
 ghost use Rattle.qc_event.specs.Legal.{Legal};
 ghost use Rattle.qc_history.specs.Index.{IsOf};
+ghost use Rattle.qc_history.specs.Looking.{is_of_access};
 ghost use Rattle.qc_report.specs.Indexed.{IsLegal};
 
-use crate::scan::{kind, outcome};
+use crate::scan::{is_access, kind, outcome};
 use qc_event::{Kind, LIMIT, Name, Outcome};
 use qc_history::Index;
 use qc_trail::Trail;
@@ -72,6 +73,16 @@ impl<'a> History<'a> {
         }
     }
 
+    /// Whether a name was started as an access.
+    pub(crate) fn is_access(&self, name: &Name) -> bool
+        ensures { result ≡ is_of_access (kind_of (reverse self.now) name.now) }
+    {
+        match self.index {
+            Some(index) => index.is_access(self.trail, name),
+            None => is_access(self.trail, name),
+        }
+    }
+
     /// How a name stands.
     pub(crate) fn outcome(&self, name: &Name) -> Outcome
         ensures { result ≡ dead_words.outcome (reverse self.now) name.now }
@@ -94,7 +105,7 @@ pub fn index_of(alloc: Global, trail: &Trail) -> Result<Index, AllocError>
     }
     let mut index = Index::new(alloc);
     for at in 0..trail.len() {
-        index.push(&trail.at(at))?;
+        index.take_in(&trail.outline(at))?;
     }
     Ok(index)
 }

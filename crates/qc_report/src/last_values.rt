@@ -1,14 +1,16 @@
 //! The last values, by the versions of the tuples.
-ghost use Rattle.std.specs.Prelude.{◌≡◌, ◌≤◌, ◌&&◌, ◌++◌, ◌∷◌, [], ℕ, List, length, map, not, reverse, IfOk};
+ghost use Rattle.std.specs.Prelude.{◌≡◌, ◌<◌, ◌≤◌, ◌&&◌, ◌++◌, ◌∷◌, [], ℕ, List, Some, length, map, not, reverse, slice_get, IfOk};
 ghost use Rattle.std.specs.List.{range_with_len};
 ghost use Rattle.qc_config.specs.declared.tuple.Tuple.{Tuple};
 ghost use Rattle.qc_event.specs.Clear.{is_get};
+ghost use Rattle.qc_event.specs.declared.event.Entry.{Entry};
 ghost use Rattle.qc_event.specs.Sound.{column};
 ghost use Rattle.qc_refine.specs.Final as spec;
 ghost use Rattle.qc_report.specs.LastValues as last;
 
 use crate::history::History;
 use qc_event::{Base, Event, Grant, Name, Op, Tuple, Val};
+use qc_trail::Outline;
 use std::alloc::{AllocError, Global};
 use std::marker::Model;
 
@@ -107,6 +109,21 @@ fn take_in(bests: &mut Vec<Option<Best>>, history: &History<'_>, event: &Event)
     }
 }
 
+/// Takes in what the entry at a place of the history left for good. It builds the event of a put alone.
+fn take_in_at(bests: &mut Vec<Option<Best>>, history: &History<'_>, at: usize)
+    requires { at < length history.now }
+    ensures best { (entry : Entry) → slice_get history.now at ≡ Some entry
+        → (tuples : ℕ → List Tuple) → last.AreBest tuples bests.old.items
+        → last.AreBest (last.with_put (reverse history.now) entry.event tuples)
+        bests.new.items }
+    ensures len { length bests.new.items ≡ length bests.old.items }
+{
+    let trail = history.trail();
+    if let Outline::Put = trail.outline(at) {
+        take_in(bests, history, &trail.at(at).event);
+    }
+}
+
 /// The best of the tuples with which the copies of a record start.
 fn start_best(base: &Base, rec: u8) -> Option<Best>
     requires { length base.now ≤ 16 }
@@ -168,7 +185,7 @@ pub fn finals(
     let mut bests = start_bests(alloc, base, records)?;
     let trail = history.trail();
     for at in 0..trail.len() {
-        take_in(&mut bests, history, &trail.at(at).event);
+        take_in_at(&mut bests, history, at);
     }
     values_of(alloc, bests.as_slice())
 }

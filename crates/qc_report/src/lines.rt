@@ -1,12 +1,15 @@
 //! The lines of a report.
-ghost use Rattle.std.specs.Prelude.{◌≡◌, ◌++◌, OnOk};
+ghost use Rattle.std.specs.Prelude.{◌≡◌, ◌<◌, ◌++◌, [], false, Some, OnOk, length, slice_get};
+ghost use Rattle.qc_event.specs.declared.event.Entry.{Entry};
 ghost use Rattle.qc_report.specs.Report as spec;
+ghost use Rattle.qc_trail.specs.Outline.{outline_of};
 
 use crate::history::History;
 use crate::managers::{push_failed, push_read, push_reconf, push_set};
 use crate::page::Page;
 use crate::values::push_value;
 use qc_event::{Answer, Cause, Event, How, Kind, Name, Row, Table, Val};
+use qc_trail::Outline;
 use std::alloc::AllocError;
 
 fn push_commit(page: &mut Page, name: &Name) -> Result<(), AllocError>
@@ -76,8 +79,8 @@ fn push_aborted(
     }
 }
 
-/// Appends the line of an entry of a history.
-pub(crate) fn push_event(
+// Appends the line of an entry of a history.
+fn push_event(
     page: &mut Page,
     table: &Table,
     history: &History<'_>,
@@ -95,6 +98,40 @@ pub(crate) fn push_event(
     match how {
         How::Commit(answer) => push_committed(page, table, name, &kind, answer),
         How::Abort(cause) => push_aborted(page, table, name, &kind, cause),
+    }
+}
+
+// Whether an entry of this may have a line: none has one that is no end, or the end of an access.
+fn may_have_line(history: &History<'_>, outline: &Outline) -> bool
+    ensures { (table : Table) (event : Event) → outline.now ≡ outline_of event
+        → result ≡ false → spec.event_line table history.now event ≡ [] }
+{
+    match outline {
+        Outline::Commit { name } => !history.is_access(name),
+        Outline::Abort { name } => !history.is_access(name),
+        _ => false,
+    }
+}
+
+/// Appends the line of the entry at a place of a history, which is of this. It builds the event where that may have a
+/// line.
+pub(crate) fn push_entry(
+    page: &mut Page,
+    table: &Table,
+    history: &History<'_>,
+    at: usize,
+    outline: &Outline,
+) -> Result<(), AllocError>
+    requires within { at < length history.now }
+    requires outline { (entry : Entry) → slice_get history.now at ≡ Some entry
+        → outline.now ≡ outline_of entry.event }
+    ensures { OnOk result ((entry : Entry) → slice_get history.now at ≡ Some entry
+        → page.new ≡ page.old ++ spec.event_line table.now history.now entry.event) }
+{
+    if may_have_line(history, outline) {
+        push_event(page, table, history, &history.trail().at(at).event)
+    } else {
+        Ok(())
     }
 }
 

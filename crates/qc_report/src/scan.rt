@@ -2,6 +2,7 @@
 ghost use Rattle.std.specs.Prelude.{◌≡◌, reverse};
 ghost use Rattle.qc_event.specs.Dead as spec;
 ghost use Rattle.qc_event.specs.History.{kind_of};
+ghost use Rattle.qc_history.specs.Looking.{is_of_access};
 
 use qc_event::{Event, How, Kind, Name, Outcome};
 use qc_trail::Trail;
@@ -19,6 +20,13 @@ pub(crate) fn kind(trail: &Trail, n: &Name) -> Option<Kind>
         }
     }
     None
+}
+
+/// Whether a name was started as an access. It takes no memory.
+pub(crate) fn is_access(trail: &Trail, n: &Name) -> bool
+    ensures { result ≡ is_of_access (kind_of (reverse trail.now) n.now) }
+{
+    matches!(kind(trail, n), Some(Kind::Access))
 }
 
 /// How a transaction stands. It takes no memory.

@@ -1,14 +1,15 @@
 //! What one pass over the entries of a history sums up.
-ghost use Rattle.std.specs.Prelude.{◌≡◌, ◌++◌, ◌∷◌, [], List, IfOk, OnOk};
+ghost use Rattle.std.specs.Prelude.{◌≡◌, ◌<◌, ◌++◌, ◌∷◌, [], List, Some, IfOk, OnOk, length, slice_get};
 ghost use Rattle.qc_event.specs.declared.event.Entry.{Entry};
 ghost use Rattle.qc_report.specs.Counts.{TallyHasRoom, counts};
 ghost use Rattle.qc_report.specs.Report as spec;
 
 use crate::history::History;
-use crate::lines::{push_doubt, push_event};
+use crate::lines::{push_doubt, push_entry};
 use crate::page::Page;
 use crate::tally::{Tally, in_doubt};
-use qc_event::{Entry, Event, Table};
+use qc_event::Table;
+use qc_trail::Outline;
 use std::alloc::{AllocError, Global};
 
 /// The lines of the ends among entries, those of the tops in doubt, and how many tops there were.
@@ -32,27 +33,25 @@ impl Sums {
         }
     }
 
-    // Takes in an entry of the history.
-    fn take_in(
-        &mut self,
-        table: &Table,
-        history: &History<'_>,
-        entry: &Entry,
-    ) -> Result<(), AllocError>
-        requires { TallyHasRoom self.old.tally }
-        ensures ends { OnOk result (self.new.ends
-            ≡ self.old.ends ++ spec.event_line table.now history.now entry.now.event) }
-        ensures doubts { OnOk result
-            (self.new.doubts ≡ self.old.doubts ++ spec.doubt_line history.now entry.now.event) }
-        ensures tally { OnOk result ((before : List Entry)
-            → self.old.tally ≡ counts history.now before
-            → self.new.tally ≡ counts history.now (before ++ entry.now ∷ [])) }
+    // Takes in the entry at a place of the history.
+    fn take_in(&mut self, table: &Table, history: &History<'_>, at: usize) -> Result<(), AllocError>
+        requires within { at < length history.now }
+        requires room { TallyHasRoom self.old.tally }
+        ensures ends { OnOk result ((entry : Entry) → slice_get history.now at ≡ Some entry
+            → self.new.ends
+            ≡ self.old.ends ++ spec.event_line table.now history.now entry.event) }
+        ensures doubts { OnOk result ((entry : Entry) → slice_get history.now at ≡ Some entry
+            → self.new.doubts ≡ self.old.doubts ++ spec.doubt_line history.now entry.event) }
+        ensures tally { OnOk result ((before : List Entry) (entry : Entry)
+            → slice_get history.now at ≡ Some entry → self.old.tally ≡ counts history.now before
+            → self.new.tally ≡ counts history.now (before ++ entry ∷ [])) }
     {
-        let is_doubt = in_doubt(history, &entry.event);
-        self.tally.count(entry, is_doubt);
-        push_event(&mut self.ends, table, history, &entry.event)?;
-        match &entry.event {
-            Event::Ready { top } if is_doubt => push_doubt(&mut self.doubts, top),
+        let outline = history.trail().outline(at);
+        let is_doubt = in_doubt(history, &outline);
+        self.tally.count(&outline, is_doubt);
+        push_entry(&mut self.ends, table, history, at, &outline)?;
+        match &outline {
+            Outline::Ready { top } if is_doubt => push_doubt(&mut self.doubts, top),
             _ => Ok(()),
         }
     }
@@ -72,7 +71,7 @@ impl Sums {
         let mut sums = Sums::new(alloc);
         let trail = history.trail();
         for at in 0..trail.len() {
-            sums.take_in(table, history, &trail.at(at))?;
+            sums.take_in(table, history, at)?;
         }
         Ok(sums)
     }

@@ -1,12 +1,15 @@
 //! How many tops there were, and whether any is in doubt.
 ghost use Rattle.std.specs.Prelude.{◌≡◌, ◌++◌, ◌∷◌, [], List, OnOk};
 ghost use Rattle.qc_event.specs.declared.event.Entry.{Entry};
+ghost use Rattle.qc_event.specs.declared.event.Event.{Event};
 ghost use Rattle.qc_report.specs.Counts.{TallyHasRoom, counts, tally_text};
 ghost use Rattle.qc_report.specs.Report as spec;
+ghost use Rattle.qc_trail.specs.Outline.{outline_of};
 
 use crate::history::History;
 use crate::page::Page;
-use qc_event::{Entry, Event, How, Name, Outcome};
+use qc_event::{Name, Outcome};
+use qc_trail::Outline;
 use std::alloc::AllocError;
 
 /// Whether a transaction has not ended.
@@ -19,12 +22,13 @@ fn is_live(outcome: Outcome) -> bool
     }
 }
 
-/// Whether an entry is a top that was ready and has not ended.
-pub(crate) fn in_doubt(history: &History<'_>, event: &Event) -> bool
-    ensures { result ≡ spec.in_doubt history.now event.now }
+/// Whether an entry of this is a top that was ready and has not ended.
+pub(crate) fn in_doubt(history: &History<'_>, outline: &Outline) -> bool
+    ensures { (event : Event) → outline.now ≡ outline_of event
+        → result ≡ spec.in_doubt history.now event }
 {
-    match event {
-        Event::Ready { top } => is_live(history.outcome(top)),
+    match outline {
+        Outline::Ready { top } => is_live(history.outcome(top)),
         _ => false,
     }
 }
@@ -35,35 +39,30 @@ fn is_top(name: &Name) -> bool
     name.len() == 1
 }
 
-fn starts_top(event: &Event) -> bool
-    ensures { result ≡ spec.starts_top event.now }
+fn starts_top(outline: &Outline) -> bool
+    ensures { (event : Event) → outline.now ≡ outline_of event → result ≡ spec.starts_top event }
 {
-    match event {
-        Event::Start { name, .. } => is_top(name),
+    match outline {
+        Outline::Start { name } => is_top(name),
+        Outline::StartAccess { name } => is_top(name),
         _ => false,
     }
 }
 
-fn commits_top(event: &Event) -> bool
-    ensures { result ≡ spec.commits_top event.now }
+fn commits_top(outline: &Outline) -> bool
+    ensures { (event : Event) → outline.now ≡ outline_of event → result ≡ spec.commits_top event }
 {
-    match event {
-        Event::End {
-            name,
-            how: How::Commit(_),
-        } => is_top(name),
+    match outline {
+        Outline::Commit { name } => is_top(name),
         _ => false,
     }
 }
 
-fn aborts_top(event: &Event) -> bool
-    ensures { result ≡ spec.aborts_top event.now }
+fn aborts_top(outline: &Outline) -> bool
+    ensures { (event : Event) → outline.now ≡ outline_of event → result ≡ spec.aborts_top event }
 {
-    match event {
-        Event::End {
-            name,
-            how: How::Abort(_),
-        } => is_top(name),
+    match outline {
+        Outline::Abort { name } => is_top(name),
         _ => false,
     }
 }
@@ -75,7 +74,7 @@ pub fn has_doubt(history: &History<'_>) -> bool
     let trail = history.trail();
     let mut doubt = false;
     for at in 0..trail.len() {
-        doubt |= in_doubt(history, &trail.at(at).event);
+        doubt |= in_doubt(history, &trail.outline(at));
     }
     doubt
 }
@@ -102,16 +101,16 @@ impl Tally {
         }
     }
 
-    /// Counts an entry, of which it is known whether it is a top in doubt.
-    pub(crate) fn count(&mut self, entry: &Entry, is_doubt: bool)
+    /// Counts an entry of this, of which it is known whether it is a top in doubt.
+    pub(crate) fn count(&mut self, outline: &Outline, is_doubt: bool)
         requires { TallyHasRoom self.old }
-        ensures { (trail before : List Entry) → is_doubt ≡ spec.in_doubt trail entry.now.event
-            → self.old ≡ counts trail before
-            → self.new ≡ counts trail (before ++ entry.now ∷ []) }
+        ensures { (trail before : List Entry) (entry : Entry)
+            → outline.now ≡ outline_of entry.event → is_doubt ≡ spec.in_doubt trail entry.event
+            → self.old ≡ counts trail before → self.new ≡ counts trail (before ++ entry ∷ []) }
     {
-        self.started += usize::from(starts_top(&entry.event));
-        self.committed += usize::from(commits_top(&entry.event));
-        self.aborted += usize::from(aborts_top(&entry.event));
+        self.started += usize::from(starts_top(outline));
+        self.committed += usize::from(commits_top(outline));
+        self.aborted += usize::from(aborts_top(outline));
         self.doubt += usize::from(is_doubt);
     }
 
@@ -122,8 +121,8 @@ impl Tally {
         let trail = history.trail();
         let mut tally = Tally::none();
         for at in 0..trail.len() {
-            let entry = trail.at(at);
-            tally.count(&entry, in_doubt(history, &entry.event));
+            let outline = trail.outline(at);
+            tally.count(&outline, in_doubt(history, &outline));
         }
         tally
     }

@@ -1,3 +1,4 @@
 mod Growing
 pub mod Within
 mod Seldom
+pub mod Outlined

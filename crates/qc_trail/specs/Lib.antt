@@ -1,2 +1,3 @@
 pub mod Rare
 pub mod Told
+pub mod Outline

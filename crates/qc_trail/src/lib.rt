@@ -5,8 +5,11 @@ mod appending;
 mod brief;
 mod keeping;
 mod lists;
+mod outline;
+mod outlines;
 mod places;
 mod rares;
 mod trail;
 
+pub use outline::Outline;
 pub use trail::Trail;

@@ -43,7 +43,7 @@ impl Lists {
         }
     }
 
-    fn name(&self, at: u32) -> Name
+    pub(crate) fn name(&self, at: u32) -> Name
         requires { at < length self.now.names }
         ensures { result ≡ name_at self.now at }
     {

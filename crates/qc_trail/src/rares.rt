@@ -2,10 +2,12 @@
 ghost use Rattle.std.specs.Prelude.{◌≡◌, ◌<◌, [], length, IfOk};
 ghost use Rattle.qc_event.specs.declared.event.Event.TheVariants as event_is;
 ghost use Rattle.qc_event.specs.declared.event.How.TheVariants.{Abort};
+ghost use Rattle.qc_trail.specs.Outline.{outline_of};
 ghost use Rattle.qc_trail.specs.Rare.{abort_in, rare_at, rare_in, rare_told, refused_in};
 ghost use Rattle.qc_trail.specs.Told.{GoesOn, StandsAt};
 
 use crate::appending::append;
+use crate::outline::Outline;
 use qc_event::{Answer, Ask, Cause, Config, Event, How, Kind, Lack, Name, Op, Refusal, Why};
 use std::alloc::{AllocError, Global};
 use std::marker::Model;
@@ -114,6 +116,14 @@ impl Rares {
         ensures { result ≡ rare_told (rare_at self.now at) }
     {
         told_by(&self.rares[at as usize])
+    }
+
+    /// What the event at a place is of.
+    pub(crate) fn outline(&self, at: u32) -> Outline
+        requires { at < length self.now }
+        ensures { result ≡ outline_of (rare_told (rare_at self.now at)) }
+    {
+        outlined(&self.rares[at as usize])
     }
 
     /// Adds an event, where it is seldom, and tells its place.
@@ -234,6 +244,30 @@ fn told_by(rare: &Rare) -> Event
             name,
             how: How::Commit(Answer::Generation(generation)),
         },
+    }
+}
+
+// What the event is of that is told by what is seldom.
+fn outlined(rare: &Rare) -> Outline
+    ensures { result ≡ outline_of (rare_told rare.now) }
+{
+    match *rare {
+        Rare::Start { name, .. } => Outline::Start { name },
+        Rare::Asked { name, .. }
+        | Rare::Conflict { name, .. }
+        | Rare::NoQuorum { name, .. }
+        | Rare::Last { name }
+        | Rare::Orphan { name, .. }
+        | Rare::Killed { name }
+        | Rare::Child { name, .. }
+        | Rare::Missed { name } => Outline::Abort { name },
+        Rare::Generation { name, .. } => Outline::Commit { name },
+        Rare::Ask { .. }
+        | Rare::Gone { .. }
+        | Rare::Blocked { .. }
+        | Rare::Dead { .. }
+        | Rare::Unable { .. }
+        | Rare::Mark { .. } => Outline::Other,
     }
 }
 

@@ -1,8 +1,12 @@
 //! A history's entries.
 ghost use Rattle.std.specs.Prelude.{◌≡◌, ◌<◌, ◌-◌, ◌↔◌, [], ◌∷◌, ◌++◌, length, option_to_list, take, slice_get, vec_len, vec_capacity, IfOk, IsTrue, Some, OnOk, OnErr};
+ghost use Rattle.std.specs.Option.{option_map};
+ghost use Rattle.qc_event.specs.declared.event.Entry.{Entry};
+ghost use Rattle.qc_trail.specs.Outline.{outline_of};
 
 use crate::brief::BriefEntry;
 use crate::lists::Lists;
+use crate::outline::Outline;
 use qc_event::Entry;
 use qc_names::lists::{add, append_some, make_room};
 use std::alloc::{AllocError, Global};
@@ -83,6 +87,15 @@ impl Trail {
             seat: brief.seat,
             event: self.lists.event(&brief.event),
         }
+    }
+
+    /// What the entry at a place is of, counted from 0, that is within. It builds no event.
+    pub fn outline(&self, at: usize) -> Outline
+        requires { at < length self.now }
+        ensures { option_map (λ (e : Entry). outline_of e.event) (slice_get self.now at)
+            ≡ Some result }
+    {
+        self.lists.outline(&self.briefs[at].event)
     }
 
     /// Adds an entry. The place is where its name may stand among those of the started transactions, in order of their

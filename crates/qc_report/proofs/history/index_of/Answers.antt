@@ -3,6 +3,7 @@ use Rattle.std.proofs.lemmas.Option.{slice_get_within}
 use Rattle.qc_event.specs.Legal.{Legal}
 use Rattle.qc_event.proofs.Histories.{reverse-take_more}
 use Rattle.qc_history.specs.Index.{IsOf}
+use Rattle.qc_trail.proofs.Outlined.{outlined}
 use Rattle.qc_report.proofs.Further.{read_there}
 use Rattle.qc_report.proofs.history.index_of.Goals as goal
 
@@ -10,13 +11,15 @@ pub loop-at-preserved : goal.loop-at-preserved
 loop-at-preserved c =
     let i = c.loop-at.at in
     let h = c.args.trail.now in
-    let more : reverse (take (i + 1) h) ≡ c.at.result ∷ reverse (take i h) =
-    reverse-take_more h i c.at.result (slice_get_within h i c.at.result c.at.ensures) ∙ ap (λ e. e ∷ reverse (take i h)) (sym (read_there h i c.at.result c.at.ensures)) in
+    let here = outlined h i c.outline.result c.outline.ensures in
+    let e = here.entry in
+    let more : reverse (take (i + 1) h) ≡ e ∷ reverse (take i h) =
+    reverse-take_more h i e (slice_get_within h i e here.there) ∙ ap (λ x. x ∷ reverse (take i h)) (sym (read_there h i e here.there)) in
     record {
       index = λ setting legal.
           let allowed = subst (Legal setting) more legal in
-          subst (IsOf c.push.new.self) (sym more) (c.in_ok-push.ensures.ok setting (reverse (take i h)) (c.loop-at.invariant.index setting allowed.0) allowed);
-      count = c.in_ok-push.ensures.count ∙ ap (λ n. n + 1) c.loop-at.invariant.count;
+          subst (IsOf c.take_in.new.self) (sym more) (c.in_ok-take_in.ensures.ok e here.is setting (reverse (take i h)) (c.loop-at.invariant.index setting allowed.0) allowed);
+      count = c.in_ok-take_in.ensures.count ∙ ap (λ n. n + 1) c.loop-at.invariant.count;
     }
 
 pub returns : goal.returns

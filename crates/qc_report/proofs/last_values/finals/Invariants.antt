@@ -7,5 +7,5 @@ use Rattle.qc_report.proofs.last_values.finals.Given as goal
 abbrev pub invariant-loop-at : goal.invariant-loop-at
 invariant-loop-at l = record {
   as_many : length l.bests.items ≡ l.records;
-  best : AreBest (tuples_of l.base (reverse l.history) (take l.at l.trail)) l.bests.items;
+  best : AreBest (tuples_of l.base (reverse l.history) (take l.at l.history)) l.bests.items;
 }

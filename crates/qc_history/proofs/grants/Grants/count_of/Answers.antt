@@ -1,4 +1,3 @@
-use Rattle.std.proofs.Common.{◌∙◌}
 use Rattle.qc_history.proofs.GrantPlaces.{all_listed}
 use Rattle.qc_history.proofs.grants.Grants.count_of.Goals as goal
 

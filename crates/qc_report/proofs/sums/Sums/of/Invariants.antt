@@ -6,7 +6,7 @@ use Rattle.qc_report.proofs.sums.Sums.of.Given as goal
 
 abbrev pub invariant-loop-at : goal.invariant-loop-at
 invariant-loop-at l = record {
-  ends : l.sums.ends ≡ spec.event_lines l.table l.history (take l.at l.trail);
-  doubts : l.sums.doubts ≡ spec.doubt_lines l.history (take l.at l.trail);
-  tally : l.sums.tally ≡ counts l.history (take l.at l.trail);
+  ends : l.sums.ends ≡ spec.event_lines l.table l.history (take l.at l.history);
+  doubts : l.sums.doubts ≡ spec.doubt_lines l.history (take l.at l.history);
+  tally : l.sums.tally ≡ counts l.history (take l.at l.history);
 }
