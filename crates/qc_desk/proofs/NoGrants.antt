@@ -1,7 +1,7 @@
 -- A grant that was free by what its copy has seen is allowed as long as the copy granted nothing since.
 use mathlib.Core.Bool.{true≢false}
 use Rattle.std.proofs.Common.{◌≡◌, ℕ, Bool, true, false, [], ◌∷◌, ◌++◌, refl, sym, ap, ap₂, ◌∙◌, subst, append-nil}
-use Rattle.std.specs.Prelude.{Option, None, Some, MatchOption, IfNone, ◌==◌, cond, find, filter, is_some, option_to_list}
+use Rattle.std.specs.Prelude.{Option, None, Some, MatchOption, IfNone, ◌==◌, cond, find, filter, option_to_list}
 use Rattle.std.specs.List.{AllByRecursion}
 use Rattle.std.specs.Option.{option_or, option_map}
 use Rattle.std.proofs.lemmas.Bool.{false_from_ne_true, eqb-true, eq-eqb}

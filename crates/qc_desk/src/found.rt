@@ -3,7 +3,7 @@ ghost use Rattle.std.specs.Prelude.{◌≡◌, ◌<◌, [], is_none, length, opt
 ghost use Rattle.qc_event.specs.History.{granted, grants, refused};
 ghost use Rattle.qc_event.specs.Listed.{aborted_below};
 ghost use Rattle.qc_event.specs.Standing.{open_child};
-ghost use Rattle.qc_history.specs.Grants.{Differs, tuple_at};
+ghost use Rattle.qc_history.specs.Grants.{Differs, put_at, tuple_at};
 ghost use Rattle.qc_history.specs.Looking.{is_marked_for};
 
 use crate::locked::Locked;
@@ -48,11 +48,11 @@ impl<N: Store> Locked<N> {
         self.history.count_of(copy)
     }
 
-    /// The grant of a copy at an index, in the order in which it gave them.
-    pub(crate) fn nth_of(&self, copy: u8, index: usize) -> Option<Grant>
-        ensures { result ≡ slice_get (grants self.now copy) index }
+    /// The grant of a copy at an index, in the order in which it gave them, where that is one of a put.
+    pub(crate) fn put_at(&self, copy: u8, index: usize) -> Option<Grant>
+        ensures { result ≡ put_at (grants self.now copy) index }
     {
-        self.history.nth_of(copy, index)
+        self.history.put_at(copy, index)
     }
 
     /// A copy's grants, in order.

@@ -42,7 +42,7 @@ impl<N: Store> Locked<N> {
     {
         let mut row = start.to_vec(alloc)?;
         for index in 0..self.count_of(copy) {
-            let Some(grant) = self.nth_of(copy, index) else {
+            let Some(grant) = self.put_at(copy, index) else {
                 continue;
             };
             if self.is_alive(&grant.access) {

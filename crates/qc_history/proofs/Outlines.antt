@@ -1,20 +1,57 @@
 -- What an entry is of tells what becomes of an index, and whether a name is an access.
 use Rattle.std.proofs.Common.{◌≡◌, ℕ, List, reverse, Bool, true, false, refl, ap, sym, ◌∙◌}
-use Rattle.std.specs.Prelude.{Option, None, Some, is_some, slice_get, if◌then◌else◌}
+use Rattle.std.specs.Prelude.{Option, None, Some, is_some, option_and_then, slice_get, if◌then◌else◌}
 use Rattle.std.specs.Option.{option_map}
 use Rattle.std.proofs.lemmas.List.{reverse-reverse}
+use Rattle.std.proofs.lemmas.Option.{same_Some}
+use Rattle.qc_config.specs.declared.tuple.Op.{Op}
+use Rattle.qc_config.specs.declared.tuple.Op.TheVariants as op
+use Rattle.qc_event.specs.Clear.{is_get}
 use Rattle.qc_event.specs.declared.event.Entry.{Entry}
 use Rattle.qc_event.specs.declared.event.Event.{Event}
 use Rattle.qc_event.specs.declared.event.Event.TheVariants as event
+use Rattle.qc_event.specs.declared.event.Grant.{Grant}
 use Rattle.qc_event.specs.declared.event.Kind.{Kind}
 use Rattle.qc_event.specs.declared.event.Kind.TheVariants as kind
 use Rattle.qc_event.specs.History.{Begun, Name, kind_of, same, start, start_in}
 use Rattle.qc_trail.specs.declared.outline.Outline.{Outline}
 use Rattle.qc_trail.specs.declared.outline.Outline.TheVariants as outline
-use Rattle.qc_trail.specs.Outline.{kind_outline, outline_of}
+use Rattle.qc_trail.specs.Outline.{op_outline, kind_outline, outline_of}
+use Rattle.qc_history.specs.Grants.{grant_of, put_at}
 use Rattle.qc_history.specs.Looking.{is_of_access}
 use Rattle.qc_trail.proofs.Outlined.{outlined}
 use Rattle.qc_history.specs.Places.{IsWhere}
+
+-- PUTS
+
+put_op : (o : Op) (x : Outline) → x ≡ op_outline o → x ≡ outline.Put → is_get o ≡ false
+put_op op.Get x is put = absurd cc
+put_op (op.PutData version value) x is put = refl
+put_op (op.PutConfig generation config) x is put = refl
+
+get_op : (o : Op) (x : Outline) → x ≡ op_outline o → (x ≡ outline.Put → ⊥) → is_get o ≡ true
+get_op op.Get x is other = refl
+get_op (op.PutData version value) x is other = absurd (other is)
+get_op (op.PutConfig generation config) x is other = absurd (other is)
+
+granted : (e : Event) (g : Grant) → grant_of e ≡ Some g → outline_of e ≡ op_outline g.op
+granted (event.Granted copy grant) g is = ap (λ (h : Grant). op_outline h.op) (same_Some grant g is)
+granted (event.Start n k) g is = absurd cc
+granted (event.Ask ask) g is = absurd cc
+granted (event.Gone access why) g is = absurd cc
+granted (event.Refused access copy refusal) g is = absurd cc
+granted (event.Unable access why) g is = absurd cc
+granted (event.Mark by session) g is = absurd cc
+granted (event.Ready top) g is = absurd cc
+granted (event.End n how) g is = absurd cc
+
+pub put_there : (given : List Grant) (index : ℕ) (e : Event) (g : Grant) (x : Outline) → grant_of e ≡ Some g → x ≡ outline_of e → x ≡ outline.Put → slice_get given index ≡ Some g → Some g ≡ put_at given index
+put_there given index e g x is of put there =
+    sym (ap (λ b. if b then None else Some g) (put_op g.op x (of ∙ granted e g is) put)) ∙ ap (option_and_then (λ (h : Grant). if is_get h.op then None else Some h)) (sym there)
+
+pub no_put_there : (given : List Grant) (index : ℕ) (e : Event) (g : Grant) (x : Outline) → grant_of e ≡ Some g → x ≡ outline_of e → (x ≡ outline.Put → ⊥) → slice_get given index ≡ Some g → None ≡ put_at given index
+no_put_there given index e g x is of other there =
+    sym (ap (λ b. if b then None else Some g) (get_op g.op x (of ∙ granted e g is) other)) ∙ ap (option_and_then (λ (h : Grant). if is_get h.op then None else Some h)) (sym there)
 
 -- ACCESSES
 

@@ -1,11 +1,12 @@
 -- Grants of copies.
-use Rattle.std.specs.Prelude.{ℕ, ◌≡◌, ◌==◌, ◌<◌, List, [], ◌∷◌, ◌++◌, length, take, if◌then◌else◌, Option, None, Some, option_to_list, slice_get, vec_len, vec_capacity}
+use Rattle.std.specs.Prelude.{ℕ, ◌≡◌, ◌==◌, ◌<◌, List, [], ◌∷◌, ◌++◌, length, take, if◌then◌else◌, Option, None, Some, option_and_then, option_to_list, slice_get, vec_len, vec_capacity}
 use Rattle.std.specs.Option.{option_map, option_map_or}
 use Rattle.qc_config.specs.declared.tuple.Tuple.{Tuple}
 use Rattle.qc_event.specs.declared.event.Entry.{Entry}
 use Rattle.qc_event.specs.declared.event.Event.{Event}
 use Rattle.qc_event.specs.declared.event.Event.TheVariants as event
 use Rattle.qc_event.specs.declared.event.Grant.{Grant}
+use Rattle.qc_event.specs.Clear.{is_get}
 use Rattle.qc_event.specs.History.{Past, Name, Given, grant_at}
 use Rattle.qc_history.specs.declared.grants.Grants.{Grants}
 use Rattle.qc_history.specs.declared.grants.Places.{Places}
@@ -19,6 +20,10 @@ granted_at _ = None
 abbrev pub grant_of : Event → Option Grant
 grant_of (event.Granted copy grant) = Some grant
 grant_of _ = None
+
+-- the grant at an index, where it is one of a put
+abbrev pub put_at : List Grant → ℕ → Option Grant
+put_at given index = option_and_then (λ (g : Grant). if is_get g.op then None else Some g) (slice_get given index)
 
 -- whom the event grants
 abbrev pub granted_name : Event → Option Name

@@ -5,7 +5,7 @@ ghost use Rattle.qc_event.specs.History.{granted, grants, refused};
 ghost use Rattle.qc_event.specs.Legal.{Legal};
 ghost use Rattle.qc_event.specs.Listed.{aborted_below};
 ghost use Rattle.qc_event.specs.Standing.{open_child};
-ghost use Rattle.qc_history.specs.Grants.{Differs, tuple_at};
+ghost use Rattle.qc_history.specs.Grants.{Differs, put_at, tuple_at};
 ghost use Rattle.qc_history.specs.Looking.{WhereLegal, is_marked_for};
 ghost use Rattle.qc_history.specs.Looking as words;
 
@@ -69,11 +69,11 @@ impl History {
         self.beside.count_of(&self.entries, copy)
     }
 
-    /// The grant of a copy at an index, in the order in which it gave them.
-    pub fn nth_of(&self, copy: u8, index: usize) -> Option<Grant>
-        ensures { result ≡ slice_get (grants self.now copy) index }
+    /// The grant of a copy at an index, in the order in which it gave them, where that is one of a put.
+    pub fn put_at(&self, copy: u8, index: usize) -> Option<Grant>
+        ensures { result ≡ put_at (grants self.now copy) index }
     {
-        self.beside.nth_of(&self.entries, copy, index)
+        self.beside.put_at(&self.entries, copy, index)
     }
 
     /// A copy's grants, in order.

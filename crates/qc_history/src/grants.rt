@@ -3,11 +3,11 @@ ghost use Rattle.std.specs.Prelude.{◌≡◌, ◌↔◌, ℕ, ◌<◌, [], ◌�
 ghost use Rattle.qc_event.specs.declared.event.Grant.{Grant};
 ghost use Rattle.qc_event.specs.History.{Past, grants};
 ghost use Rattle.qc_history.specs.Grants as words;
-ghost use Rattle.qc_history.specs.Grants.{AreGrants, Differs, HasSpare, granted_at, listed};
+ghost use Rattle.qc_history.specs.Grants.{AreGrants, Differs, HasSpare, granted_at, listed, put_at};
 
 use qc_event::{Entry, Event, Grant};
 use qc_names::lists::append_some;
-use qc_trail::Trail;
+use qc_trail::{Outline, Trail};
 use std::alloc::{AllocError, Global};
 
 // The copy that grants, where the entry is a grant.
@@ -153,16 +153,21 @@ impl Grants {
         self.places(copy).len()
     }
 
-    /// The grant of a copy at an index, in the order in which it gave them.
-    pub(crate) fn nth(&self, entries: &Trail, copy: u8, index: usize) -> Option<Grant>
+    /// The grant of a copy at an index, in the order in which it gave them, where that is one of a put. It builds no
+    /// other.
+    pub(crate) fn put_at(&self, entries: &Trail, copy: u8, index: usize) -> Option<Grant>
         requires kept { AreGrants self.now (reverse entries.now) }
-        ensures { result ≡ slice_get (grants (reverse entries.now) copy) index }
+        ensures { result ≡ put_at (grants (reverse entries.now) copy) index }
     {
         let places = self.places(copy);
         if index >= places.len() {
             return None;
         }
-        grant_of(&entries.at(places[index] as usize))
+        let at = places[index] as usize;
+        match entries.outline(at) {
+            Outline::Put => grant_of(&entries.at(at)),
+            _ => None,
+        }
     }
 
     /// A copy's grants, in order. It reads each of them once. The only error is want of memory for the list.

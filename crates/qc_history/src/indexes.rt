@@ -9,7 +9,7 @@ ghost use Rattle.qc_event.specs.Users.{is_marked, top_number};
 ghost use Rattle.qc_history.specs.Index.{IsOf};
 ghost use Rattle.qc_history.specs.Standing.{OfEach};
 ghost use Rattle.qc_history.specs.Growing.{CanFollow};
-ghost use Rattle.qc_history.specs.Grants.{Differs, tuple_at};
+ghost use Rattle.qc_history.specs.Grants.{Differs, put_at, tuple_at};
 ghost use Rattle.qc_history.specs.Indexes.{AreOf, AreKept, AreReady, IndexesHaveRoom, OfEntries};
 
 use crate::aborts::Aborts;
@@ -142,12 +142,13 @@ impl Indexes {
         self.grants.count_of(entries, copy)
     }
 
-    /// The grant of a copy at an index, in the order in which it gave them. It reads that one.
-    pub fn nth_of(&self, entries: &Trail, copy: u8, index: usize) -> Option<Grant>
+    /// The grant of a copy at an index, in the order in which it gave them, where that is one of a put. It reads that
+    /// one.
+    pub fn put_at(&self, entries: &Trail, copy: u8, index: usize) -> Option<Grant>
         requires { AreOf self.now (reverse entries.now) }
-        ensures { result ≡ slice_get (grants (reverse entries.now) copy) index }
+        ensures { result ≡ put_at (grants (reverse entries.now) copy) index }
     {
-        self.grants.nth(entries, copy, index)
+        self.grants.put_at(entries, copy, index)
     }
 
     /// A copy's grants, in order. It reads each of them once. The only error is want of memory for the list.
