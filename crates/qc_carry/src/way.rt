@@ -74,10 +74,7 @@ impl<'a, R: Wait, D: Disk + Drop, N: Mounting> Port for Way<'a, R, D, N> {
     fn deliver(&mut self, ask: &Ask) -> Result<Answered, Short> {
         let served = self.system.serve(self.rt, &mut self.pass, ask);
         self.full = is_full(&served);
-        match served {
-            Ok(answer) => Ok(answer),
-            Err(short) => Err(short),
-        }
+        served
     }
 }
 

@@ -1,6 +1,6 @@
 -- How deep names nest that have children.
 use Rattle.std.proofs.Common.{◌≡◌, ℕ, ◌+◌, ◌-◌, ◌<◌, ◌≤◌, true, [], ◌∷◌, ◌++◌, length, refl, sym, ap, ◌∙◌, arith, subst}
-use Rattle.std.specs.Prelude.{Option, None, Some, MatchOption, find, is_none, is_some}
+use Rattle.std.specs.Prelude.{Option, None, Some, MatchOption, find, is_none}
 use Rattle.qc_names.specs.Name as name
 use Rattle.qc_event.specs.declared.event.Cause.{Cause}
 use Rattle.qc_event.specs.declared.event.Kind.{Kind}

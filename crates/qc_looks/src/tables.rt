@@ -123,7 +123,7 @@ impl Tables {
         };
         let locks = &mut self.copies[*copy as usize];
         locks.reserve()?;
-        locks.grant(&grant.access, grant.rec, &grant.op);
+        locks.hold(&grant.access, grant.rec, &grant.op);
         Ok(())
     }
 

@@ -1,5 +1,5 @@
 -- What a copy's locks tell of a request.
-use Rattle.std.specs.Prelude.{List, ◌≡◌, ◌++◌, fold, filter, find, Option}
+use Rattle.std.specs.Prelude.{List, fold, filter, find, Option}
 use Rattle.std.specs.Option.{option_map, option_map_or}
 use Rattle.qc_config.specs.declared.tuple.Tuple.{Tuple}
 use Rattle.qc_config.specs.Tuple.{after}

@@ -67,7 +67,7 @@ pub fn replay_locks(alloc: Global, start: Vec<Tuple>, grants: &[Grant]) -> Resul
     let mut locks = Locks::new(alloc, start)?;
     for grant in grants {
         locks.reserve()?;
-        locks.grant(&grant.access, grant.rec, &grant.op);
+        locks.hold(&grant.access, grant.rec, &grant.op);
     }
     Ok(locks)
 }

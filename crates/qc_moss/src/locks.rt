@@ -148,6 +148,17 @@ impl Locks {
         Ok(())
     }
 
+    /// Gives an access a lock of a record, though others be in its way. It takes the room that was reserved.
+    pub fn hold(&mut self, access: &Name, rec: u8, op: &Op)
+        requires reserved { IsTrue self.old.reserved }
+        requires within { rec < length self.old.start }
+        ensures granted { self.new ≡ locks.granted_to self.old access.now rec op.now }
+        ensures lists { length self.old.held ≡ length self.old.start }
+    {
+        add(&mut self.held[rec as usize], Holder::alone(access, op));
+        self.reserved = false;
+    }
+
     /// Gives an access a lock of a record, though others be in its way, and answers the tuple there after
     /// its operation. It takes the room that was reserved.
     pub fn grant(&mut self, access: &Name, rec: u8, op: &Op) -> Tuple
@@ -158,8 +169,7 @@ impl Locks {
         ensures lists { length self.old.held ≡ length self.old.start }
     {
         let tuple = self.seen_by(rec).after(op);
-        add(&mut self.held[rec as usize], Holder::alone(access, op));
-        self.reserved = false;
+        self.hold(access, rec, op);
         tuple
     }
 

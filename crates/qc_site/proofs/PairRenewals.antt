@@ -1,7 +1,6 @@
 -- What the mounting of a pair gives, by what was found of it.
 use Rattle.std.proofs.Common.{◌≡◌, ◌≢◌, arith, ℕ, ◌+◌, inl, inr, List, [], ◌∷◌, ◌++◌, refl, sym, ap, ◌∙◌, subst, append-nil}
-use Rattle.std.specs.Prelude.{Bool, not, Option, Some, unwrap_or}
-use Rattle.std.specs.List.{All}
+use Rattle.std.specs.Prelude.{Bool, Option, Some, unwrap_or}
 use Rattle.std.specs.Option.{option_map}
 use Rattle.std.proofs.lemmas.List.Elements.{All-head}
 use Rattle.std.proofs.lemmas.Option.{IfSome_then}
@@ -17,7 +16,7 @@ use Rattle.qc_codec.specs.declared.image.ImageFault.TheVariants.{Broken, Grammar
 use Rattle.qc_codec.proofs.Bases.{format_behind}
 use Rattle.qc_codec.proofs.Bodies.{exact_made}
 use Rattle.qc_codec.proofs.Exact.{all_takes}
-use Rattle.qc_disk.specs.Disk.{DiskView, LeavesOnly}
+use Rattle.qc_disk.specs.Disk.{DiskView}
 use Rattle.qc_disk.specs.declared.disk.Disk.{Ghosts}
 use Rattle.qc_event.specs.declared.table.Table.{Table}
 use Rattle.qc_journal.proofs.Moments.{weakened}
@@ -28,9 +27,9 @@ use Rattle.qc_pair.specs.Opening.{active_told}
 use Rattle.qc_pair.specs.declared.fold.Fold.{Fold}
 use Rattle.qc_pair.specs.declared.kind.Kind.TheVariants as kind
 use Rattle.qc_site.specs.Image.{to_write, AreBytes, AreMadeFor, AreMadeIn}
-use Rattle.qc_site.specs.Mounted.{records_of, MountsCopy}
+use Rattle.qc_site.specs.Mounted.{MountsCopy}
 use Rattle.qc_site.specs.Pairs.{FindsCopyPair, MountsCopyPair}
-use Rattle.qc_site.specs.Renewal.{AreOlder, IsRenewalFault, MountsCopyHalf, TellsNow}
+use Rattle.qc_site.specs.Renewal.{AreOlder, IsRenewalFault, MountsCopyHalf}
 use Rattle.qc_site.specs.declared.mounted.Mounted.{Mounted}
 use Rattle.qc_site.proofs.OfBytes.{Bytes, are_bytes}
 

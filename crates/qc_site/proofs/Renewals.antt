@@ -1,5 +1,5 @@
 -- The fold of a mounted copy into the other journal of its pair.
-use Rattle.std.proofs.Common.{◌≡◌, ℕ, ◌+◌, ◌<◌, ◌^◌, List, [], ◌∷◌, refl, sym, ap, ◌∙◌, subst, arith}
+use Rattle.std.proofs.Common.{◌≡◌, ℕ, ◌<◌, ◌^◌, List, refl, sym, ap, ◌∙◌, subst, arith}
 use Rattle.std.specs.Prelude.{All, Bool, true, false, not, if◌then◌else◌}
 use Rattle.qc_codec.specs.Base.{current_copy_base}
 use Rattle.qc_codec.specs.Bodies as body
@@ -20,7 +20,7 @@ use Rattle.qc_pair.specs.declared.fold.Fold.{Fold}
 use Rattle.qc_pair.specs.declared.kind.Kind.TheVariants as kind
 use Rattle.qc_pair.proofs.Bases.{base_fits}
 use Rattle.qc_site.specs.Image.{AreBytes, AreMadeFor}
-use Rattle.qc_site.specs.Mounted.{journal_of, records_of}
+use Rattle.qc_site.specs.Mounted.{records_of}
 use Rattle.qc_site.specs.Renewal.{renewed_base, renewed_body, restored_in}
 use Rattle.qc_site.specs.Renewing.{other_number, own_number, IsFullAt, IsNotRenewed, MayRenew}
 use Rattle.qc_site.specs.Start.{start_of}

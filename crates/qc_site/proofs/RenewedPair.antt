@@ -1,5 +1,5 @@
 -- A pair that was folded is found in the current format.
-use Rattle.std.proofs.Common.{◌≡◌, ℕ, ◌+◌, ◌<◌, ◌≤◌, inl, inr, ◌⊎◌, List, [], ◌∷◌, ◌++◌, length, refl, sym, ap, ap₂, ◌∙◌, subst, arith}
+use Rattle.std.proofs.Common.{◌≡◌, ℕ, ◌+◌, ◌<◌, ◌≤◌, inl, inr, List, [], ◌∷◌, length, refl, sym, ap, ap₂, ◌∙◌, subst, arith}
 use Rattle.std.specs.List.{cons_option}
 use Rattle.std.specs.Prelude.{Bool, true, false, not, if◌then◌else◌, nat_lt, Option, None, Some, IfSome, IsSome, is_some, MatchOption}
 use Rattle.std.proofs.lemmas.Bool.{lt-ltb, ltb-true}
@@ -36,7 +36,7 @@ use Rattle.qc_pair.specs.Pair.{number_at}
 use Rattle.qc_pair.specs.declared.fold.Fold.{Fold}
 use Rattle.qc_pair.specs.Front.{number_in, MayBegin, MayStandSecond}
 use Rattle.qc_pair.specs.declared.kind.Kind.TheVariants as kind
-use Rattle.qc_site.specs.Image.{made_body, to_write, AreGranted, AreMountableAsCopy}
+use Rattle.qc_site.specs.Image.{made_body, AreGranted, AreMountableAsCopy}
 use Rattle.qc_site.specs.Mounted.{copy_of, journal_of, records_of, MountsCopy}
 use Rattle.qc_site.specs.Pairs.{FindsCopyPair, MountsCopyPair}
 use Rattle.qc_site.specs.Renewal.{renewed, renewed_base, renewed_body, restored_in, AreOlder, TellsNow}

@@ -1,7 +1,7 @@
 -- What a copy's bodies restore, in whatever format they are, fits the current one.
-use Rattle.std.proofs.Common.{◌≡◌, ℕ, ◌+◌, ◌<◌, ◌≤◌, ◌^◌, List, [], ◌∷◌, length, get_or, refl, sym, ap, ◌∙◌, subst, arith}
+use Rattle.std.proofs.Common.{◌≡◌, ℕ, ◌<◌, ◌^◌, List, [], ◌∷◌, length, refl, sym, subst, arith}
 use Rattle.std.specs.Prelude.{Bool, true, false, if◌then◌else◌, filter, map, Option, None, Some}
-use Rattle.std.specs.List.{All, cons_option, filter_map, range_with_len}
+use Rattle.std.specs.List.{All, cons_option, range_with_len}
 use Rattle.std.specs.Option.{option_and_then}
 use Rattle.std.proofs.lemmas.List.{length-map}
 use Rattle.std.proofs.lemmas.List.Elements.{All-nil, All-cons, All-head, All-tail, All-from_get_or}
@@ -18,15 +18,14 @@ use Rattle.qc_event.specs.Tables.{first_tuple}
 use Rattle.qc_event.specs.declared.event.Grant.{Grant}
 use Rattle.qc_event.specs.declared.table.Row.{Row}
 use Rattle.qc_event.specs.declared.table.Table.{Table}
-use Rattle.qc_codec.specs.Base.{base_in, copy_base, current_copy_base, format_in, tuples_of_base}
+use Rattle.qc_codec.specs.Base.{base_in, copy_base, format_in, tuples_of_base}
 use Rattle.qc_codec.specs.Bodies as body
-use Rattle.qc_codec.specs.Copy.{grant_in, granted_in}
+use Rattle.qc_codec.specs.Copy.{granted_in}
 use Rattle.qc_codec.specs.Fields.{config, current, current_format, datum, layout, long, tuple}
 use Rattle.qc_codec.specs.Form.{Form, all_of}
 use Rattle.qc_codec.specs.Ledger.{made_in, readings}
 use Rattle.qc_codec.specs.Restored.{is_kept_at, restored_tuple}
 use Rattle.qc_codec.specs.declared.past.Logged.{Logged}
-use Rattle.qc_codec.specs.declared.past.Past.{Past}
 use Rattle.qc_codec.specs.declared.record.BaseRecord.{BaseRecord}
 use Rattle.qc_codec.specs.declared.record.Made.{Made}
 use Rattle.qc_codec.proofs.Bodies.{exact_base, exact_grant}

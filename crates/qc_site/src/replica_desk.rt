@@ -225,7 +225,7 @@ impl<N: Store, const C: u8> Replica<N, C> {
         desk.append(rt, &mut self.pass, seer, C, &grant)?;
         self.hand = None;
         if let Some(mut locks) = self.locks.take() {
-            locks.grant(&grant.access, grant.rec, &grant.op);
+            locks.hold(&grant.access, grant.rec, &grant.op);
             self.locks = Some(locks);
         }
         Ok(())

@@ -1,5 +1,5 @@
 use Rattle.std.proofs.Common.{◌≡◌, length, reverse, sym, ap, ◌∙◌, arith}
-use Rattle.std.specs.Prelude.{Some, is_some, slice_get}
+use Rattle.std.specs.Prelude.{Some, slice_get}
 use Rattle.std.proofs.lemmas.List.{reverse-reverse, length-reverse}
 use Rattle.qc_event.specs.History.{start}
 use Rattle.qc_event.proofs.OneEntry.{not_some, some_or_none}

@@ -1,4 +1,4 @@
-use Rattle.std.proofs.Common.{[], length, sym, ap, ◌∙◌}
+use Rattle.std.proofs.Common.{length, sym, ap, ◌∙◌}
 use Rattle.qc_event.specs.History.{children}
 use Rattle.qc_looks.proofs.names.children.Goals as goal
 

@@ -1,4 +1,4 @@
-use Rattle.std.proofs.Common.{◌≡◌, ◌+◌, ◌++◌, ◌∷◌, [], true, false, below_more, refl, sym, ap, ◌∙◌, subst, arith}
+use Rattle.std.proofs.Common.{◌≡◌, ◌+◌, ◌++◌, ◌∷◌, [], true, false, below_more, refl, sym, ◌∙◌, subst, arith}
 use Rattle.qc_event.specs.Users.{ChildAborted}
 use Rattle.qc_event.proofs.FewerChildren.{fewer}
 use Rattle.qc_looks.specs.Names.{IsAbortedManager}

@@ -1,6 +1,5 @@
 -- What was found in the current format is mounted, and what was found in an older one is folded first.
-use Rattle.std.proofs.Common.{◌≡◌, ℕ, arith, subst}
-use Rattle.std.specs.Prelude.{IfOk, IfErr}
+use Rattle.std.proofs.Common.{◌≡◌, arith, subst}
 use Rattle.std.proofs.lemmas.Result.{IfErr-weaker, IfOk-weaker}
 use Rattle.qc_codec.proofs.Fits.{made_proper}
 use Rattle.qc_site.specs.Image.{AreBytes}

@@ -6,7 +6,6 @@ use Rattle.std.proofs.lemmas.Slice.Eq.{slice_eq-Decides}
 use Rattle.qc_codec.specs.Bodies as body
 use Rattle.qc_codec.specs.Form.{all_of}
 use Rattle.qc_codec.specs.Ledger.{made_for, made_in}
-use Rattle.qc_codec.specs.declared.record.Made.{Made}
 use Rattle.qc_codec.proofs.Fits.{made_proper}
 use Rattle.qc_codec.proofs.Bases.{one_spelling, one_table}
 use Rattle.qc_codec.proofs.Bodies.{exact_made}

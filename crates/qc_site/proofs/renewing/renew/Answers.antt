@@ -1,9 +1,9 @@
 -- What is folded is what the copy's records restore, as of the ledger's last epoch.
-use Rattle.std.proofs.Common.{◌≡◌, ◌+◌, ℕ, List, ◌∷◌, [], refl, sym, ap, ap₂, ◌∙◌, subst, arith}
+use Rattle.std.proofs.Common.{◌+◌, ℕ, List, ◌∷◌, [], refl, sym, ap, ap₂, ◌∙◌, subst, arith}
 use Rattle.std.specs.Prelude.{if◌then◌else◌}
 use Rattle.qc_disk.specs.Disk.{LeavesOnly}
 use Rattle.qc_journal.specs.Journal.{disk_of}
-use Rattle.qc_pair.specs.Fold.{made_in, other_in, swapped_in}
+use Rattle.qc_pair.specs.Fold.{other_in, swapped_in}
 use Rattle.qc_pair.specs.Folding.{IsFolding}
 use Rattle.qc_pair.proofs.Folds.{same_run}
 use Rattle.qc_site.specs.Image.{made_body, AreBytes}

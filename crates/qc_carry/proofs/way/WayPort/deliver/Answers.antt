@@ -17,14 +17,8 @@ serve-served-requires-clause-copy g c =
 pub invariant_of-self : goal.invariant_of-self
 invariant_of-self g c = record { found = λ full. c.serve-served.ensures.room (c.is_full-self.ensures.room full); known = ∣ c.serve-served.ensures.known ∣₁ }
 
-pub returns-in-Ok-clause-may : goal.returns-in-Ok-clause-may
-returns-in-Ok-clause-may g c = λ other h. asked_later c.args.self.now.pass.seen c.serve-served.new.seer.seen other c.serve-served.ensures.seer.older h
+pub returns-clause-may : goal.returns-clause-may
+returns-clause-may g c = λ other h. asked_later c.args.self.now.pass.seen c.serve-served.new.seer.seen other c.serve-served.ensures.seer.older h
 
-pub returns-in-Ok-clause-gave : goal.returns-in-Ok-clause-gave
-returns-in-Ok-clause-gave g c = λ other answer h. gave_later c.args.self.now.pass.seen c.serve-served.new.seer.seen other answer c.serve-served.ensures.seer.older h
-
-pub returns-in-Err-clause-may : goal.returns-in-Err-clause-may
-returns-in-Err-clause-may g c = λ other h. asked_later c.args.self.now.pass.seen c.serve-served.new.seer.seen other c.serve-served.ensures.seer.older h
-
-pub returns-in-Err-clause-gave : goal.returns-in-Err-clause-gave
-returns-in-Err-clause-gave g c = λ other answer h. gave_later c.args.self.now.pass.seen c.serve-served.new.seer.seen other answer c.serve-served.ensures.seer.older h
+pub returns-clause-gave : goal.returns-clause-gave
+returns-clause-gave g c = λ other answer h. gave_later c.args.self.now.pass.seen c.serve-served.new.seer.seen other answer c.serve-served.ensures.seer.older h

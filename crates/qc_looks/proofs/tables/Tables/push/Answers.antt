@@ -19,8 +19,8 @@ index_mut-locks-requires c =
     let less = copy_within can.1 can.2 past can.3.0 ask asked tables can.4 in
     omega (arith, less, c.args.self.now.copies.ok)
 
-pub grant-requires-clause-within : goal.grant-requires-clause-within
-grant-requires-clause-within c =
+pub hold-requires-clause-within : goal.hold-requires-clause-within
+hold-requires-clause-within c =
     let can = c.requires in
     let past = can.0 in
     let grant = c.in-Granted.grant in
@@ -45,6 +45,6 @@ returns c = λ setting past proper legal are.
     let at = its_table setting proper past legal.0 ask asked tables are old c.index_mut-locks.ensures.value in
     let less = record_within setting proper past legal.0 ask asked tables are old at in
     let reserved = c.in_ok-reserve.ensures.ok in
-    let lists : length old.held ≡ length old.start = subst (λ (t : Table). length t.held ≡ length t.start) reserved c.grant.ensures.lists in
-    subst (λ (t : Table). AreTablesOf setting.base (e ∷ past) (slice_set tables copy t)) (sym (c.grant.ensures.granted ∙ ap (λ (t : Table). granted_to t g.access g.rec g.op) reserved))
+    let lists : length old.held ≡ length old.start = subst (λ (t : Table). length t.held ≡ length t.start) reserved c.hold.ensures.lists in
+    subst (λ (t : Table). AreTablesOf setting.base (e ∷ past) (slice_set tables copy t)) (sym (c.hold.ensures.granted ∙ ap (λ (t : Table). granted_to t g.access g.rec g.op) reserved))
     (one_granted setting.base e past tables copy g old c.in-Granted.is are at (omega (arith, less, lists)))

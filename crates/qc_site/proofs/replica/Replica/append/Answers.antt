@@ -30,9 +30,9 @@ invariant_of-self-in-Some-take-2 g c =
     let was = subst (λ o. IsKept setting g.row.C v start c.self.inside.locks o) c.in-Some.is c.self.invariant in
     let had : IsTableOf start v.seen g.row.C t = subst (λ o. IfSome o (IsTableOf start v.seen g.row.C)) (sym c.take.ensures.value ∙ c.in-Some-take.is) was.kept in
     let room : HasRoomFor t grant = subst (λ o. IfSome o (λ l. HasRoomFor l grant)) (sym c.take.ensures.value ∙ c.in-Some-take.is) was.room in
-    let within : grant.rec < length t.held = omega (arith, room.within, c.grant.ensures.lists) in
-    kept_granted setting g.row.C v w grant start was.number c.append.ensures.known.0.legal c.in_ok-append.ensures.ok c.append.ensures.known.0 c.self.inside.locks (Some c.grant.new.self)
-    (table_granted setting g.row.C v w grant start was.number c.append.ensures.known.0.legal c.in_ok-append.ensures.ok t c.grant.new.self within c.grant.ensures.granted had)
+    let within : grant.rec < length t.held = omega (arith, room.within, c.hold.ensures.lists) in
+    kept_granted setting g.row.C v w grant start was.number c.append.ensures.known.0.legal c.in_ok-append.ensures.ok c.append.ensures.known.0 c.self.inside.locks (Some c.hold.new.self)
+    (table_granted setting g.row.C v w grant start was.number c.append.ensures.known.0.legal c.in_ok-append.ensures.ok t c.hold.new.self within c.hold.ensures.granted had)
     was
 
 pub returns-in_err-append-clause-err : goal.returns-in_err-append-clause-err
