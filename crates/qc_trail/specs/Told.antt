@@ -83,6 +83,10 @@ op_told apart op_is.Get = Get
 op_told apart (op_is.PutData of) = put_told (tuple_at apart of)
 op_told apart (op_is.PutConfig of) = PutConfig (tuple_at apart of).generation (tuple_at apart of).config
 
+-- a request of an access to a copy, for an operation on a record
+abbrev pub ask_told : Name → ℕ → ℕ → Op → Event
+ask_told access copy rec op = event_is.Ask (record { access = access; copy = copy; rec = rec; op = op })
+
 -- what is told by an event in brief
 abbrev pub event_told : Apart → Brief → Event
 event_told apart (brief_is.StartUser name session body) = event_is.Start (name_at apart name) (User session body)
@@ -90,11 +94,9 @@ event_told apart (brief_is.StartRead name rec) = event_is.Start (name_at apart n
 event_told apart (brief_is.StartNumber name rec number) = event_is.Start (name_at apart name) (Write rec (Number number))
 event_told apart (brief_is.StartText name rec text) = event_is.Start (name_at apart name) (Write rec (text_at apart text))
 event_told apart (brief_is.StartAccess name) = event_is.Start (name_at apart name) Access
-event_told apart (brief_is.AskGet access copy rec) = event_is.Ask (record { access = name_at apart access; copy = copy; rec = rec; op = Get })
-event_told apart (brief_is.AskNumber access copy rec version number) =
-    event_is.Ask (record { access = name_at apart access; copy = copy; rec = rec; op = PutData version (Number number) })
-event_told apart (brief_is.AskText access copy rec version text) =
-    event_is.Ask (record { access = name_at apart access; copy = copy; rec = rec; op = PutData version (text_at apart text) })
+event_told apart (brief_is.AskGet access copy rec) = ask_told (name_at apart access) copy rec Get
+event_told apart (brief_is.AskNumber access copy rec version number) = ask_told (name_at apart access) copy rec (PutData version (Number number))
+event_told apart (brief_is.AskText access copy rec version text) = ask_told (name_at apart access) copy rec (PutData version (text_at apart text))
 event_told apart (brief_is.Grant access copy rec op tuple) =
     event_is.Granted copy (record { access = name_at apart access; rec = rec; op = op_told apart op; tuple = tuple_at apart tuple })
 event_told apart (brief_is.Ready top) = event_is.Ready (name_at apart top)

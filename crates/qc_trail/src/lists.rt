@@ -1,6 +1,11 @@
 //! The lists that stand beside entries in brief.
 ghost use Rattle.std.specs.Prelude.{◌≡◌, ◌<◌, length};
-ghost use Rattle.qc_trail.specs.Told.{HasOp, HasText, HasTuple, IsWithin, event_told, name_at, nothing_apart, op_told, put_told, text_at, tuple_at, tuple_told};
+ghost use Rattle.qc_config.specs.declared.tuple.Op.TheVariants.{PutData};
+ghost use Rattle.qc_event.specs.declared.event.Event.TheVariants as event_is;
+ghost use Rattle.qc_event.specs.declared.event.How.TheVariants.{Commit};
+ghost use Rattle.qc_event.specs.declared.event.Kind.TheVariants.{Write};
+ghost use Rattle.qc_trail.specs.declared.brief.Brief.TheVariants as brief_is;
+ghost use Rattle.qc_trail.specs.Told.{HasGrant, HasOp, HasText, HasTuple, IsWithin, ask_told, event_told, name_at, nothing_apart, op_told, put_told, text_at, tuple_at, tuple_told};
 
 use crate::brief::{Brief, BriefOp, BriefTuple};
 use crate::rares::Rares;
@@ -134,116 +139,131 @@ impl Lists {
         }
     }
 
+    // The start of a name.
+    fn started(&self, name: u32, kind: Kind) -> Event
+        requires { name < length self.now.names }
+        ensures { result ≡ event_is.Start (name_at self.now name) kind }
+    {
+        Event::Start {
+            name: self.name(name),
+            kind,
+        }
+    }
+
+    // The start of a write.
+    fn write_started(&self, name: u32, rec: u8, value: Val) -> Event
+        requires { name < length self.now.names }
+        ensures { result ≡ event_is.Start (name_at self.now name) (Write rec value) }
+    {
+        self.started(name, Kind::Write { rec, value })
+    }
+
+    // A request.
+    fn asked(&self, access: u32, copy: u8, rec: u8, op: Op) -> Event
+        requires { access < length self.now.names }
+        ensures { result ≡ ask_told (name_at self.now access) copy rec op }
+    {
+        Event::Ask(Ask {
+            access: self.name(access),
+            copy,
+            rec,
+            op,
+        })
+    }
+
+    // A grant.
+    fn granted(&self, access: u32, copy: u8, rec: u8, op: &BriefOp, tuple: u32) -> Event
+        requires { HasGrant self.now access op.now tuple }
+        ensures { result ≡ event_told self.now (brief_is.Grant access copy rec op.now tuple) }
+    {
+        Event::Granted {
+            copy,
+            grant: Grant {
+                access: self.name(access),
+                rec,
+                op: self.op(op),
+                tuple: self.tuple(tuple),
+            },
+        }
+    }
+
+    // A commit.
+    fn committed(&self, name: u32, answer: Answer) -> Event
+        requires { name < length self.now.names }
+        ensures { result ≡ event_is.End (name_at self.now name) (Commit answer) }
+    {
+        Event::End {
+            name: self.name(name),
+            how: How::Commit(answer),
+        }
+    }
+
+    // A request to put a value.
+    fn put_asked(&self, access: u32, copy: u8, rec: u8, version: u64, value: Val) -> Event
+        requires { access < length self.now.names }
+        ensures { result ≡ ask_told (name_at self.now access) copy rec (PutData version value) }
+    {
+        self.asked(access, copy, rec, Op::PutData { version, value })
+    }
+
     /// What an event in brief tells.
     pub(crate) fn event(&self, brief: &Brief) -> Event
         requires { IsWithin self.now brief.now }
         ensures { result ≡ event_told self.now brief.now }
     {
-        match brief {
+        match *brief {
             Brief::StartUser {
                 name,
                 session,
                 body,
-            } => Event::Start {
-                name: self.name(*name),
-                kind: Kind::User {
-                    session: *session,
-                    body: *body,
-                },
-            },
-            Brief::StartRead { name, rec } => Event::Start {
-                name: self.name(*name),
-                kind: Kind::Read { rec: *rec },
-            },
-            Brief::StartNumber { name, rec, number } => Event::Start {
-                name: self.name(*name),
-                kind: Kind::Write {
-                    rec: *rec,
-                    value: Val::number(*number),
-                },
-            },
-            Brief::StartText { name, rec, text } => Event::Start {
-                name: self.name(*name),
-                kind: Kind::Write {
-                    rec: *rec,
-                    value: self.text(*text),
-                },
-            },
-            Brief::StartAccess { name } => Event::Start {
-                name: self.name(*name),
-                kind: Kind::Access,
-            },
-            Brief::AskGet { access, copy, rec } => Event::Ask(Ask {
-                access: self.name(*access),
-                copy: *copy,
-                rec: *rec,
-                op: Op::Get,
-            }),
+            } => self.started(name, Kind::User { session, body }),
+            Brief::StartRead { name, rec } => self.started(name, Kind::Read { rec }),
+            Brief::StartNumber { name, rec, number } => self.write_started(
+                name,
+                rec,
+                Val::number(number),
+            ),
+            Brief::StartText { name, rec, text } => self.write_started(name, rec, self.text(text)),
+            Brief::StartAccess { name } => self.started(name, Kind::Access),
+            Brief::AskGet { access, copy, rec } => self.asked(access, copy, rec, Op::Get),
             Brief::AskNumber {
                 access,
                 copy,
                 rec,
                 version,
                 number,
-            } => Event::Ask(Ask {
-                access: self.name(*access),
-                copy: *copy,
-                rec: *rec,
-                op: Op::PutData {
-                    version: *version,
-                    value: Val::number(*number),
-                },
-            }),
+            } => self.put_asked(access, copy, rec, version, Val::number(number)),
             Brief::AskText {
                 access,
                 copy,
                 rec,
                 version,
                 text,
-            } => Event::Ask(Ask {
-                access: self.name(*access),
-                copy: *copy,
-                rec: *rec,
-                op: Op::PutData {
-                    version: *version,
-                    value: self.text(*text),
-                },
-            }),
+            } => self.put_asked(access, copy, rec, version, self.text(text)),
             Brief::Grant {
                 access,
                 copy,
                 rec,
                 op,
                 tuple,
-            } => Event::Granted {
-                copy: *copy,
-                grant: Grant {
-                    access: self.name(*access),
-                    rec: *rec,
-                    op: self.op(op),
-                    tuple: self.tuple(*tuple),
-                },
-            },
+            } => self.granted(access, copy, rec, &op, tuple),
             Brief::Ready { top } => Event::Ready {
-                top: self.name(*top),
+                top: self.name(top),
             },
-            Brief::Commit { name } => Event::End {
-                name: self.name(*name),
-                how: How::Commit(Answer::Nothing),
-            },
-            Brief::CommitNumber { name, number } => Event::End {
-                name: self.name(*name),
-                how: How::Commit(Answer::Value(Val::number(*number))),
-            },
-            Brief::CommitText { name, text } => Event::End {
-                name: self.name(*name),
-                how: How::Commit(Answer::Value(self.text(*text))),
-            },
-            Brief::CommitReply { name, tuple } => Event::End {
-                name: self.name(*name),
-                how: How::Commit(Answer::Reply(self.tuple(*tuple))),
-            },
-            Brief::Rare { at } => self.rares.event(*at),
+            Brief::Commit { name } => self.committed(name, Answer::Nothing),
+            Brief::CommitNumber { name, number } => self.committed(
+                name,
+                Answer::Value(Val::number(number)),
+            ),
+            Brief::CommitText { name, text } => self.committed(
+                name,
+                Answer::Value(self.text(text)),
+            ),
+            Brief::CommitReply { name, tuple } => self.committed(
+                name,
+                Answer::Reply(self.tuple(tuple)),
+            ),
+            Brief::Rare { at } => self.rares.event(at),
         }
     }
 }
