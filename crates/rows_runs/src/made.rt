@@ -11,10 +11,11 @@ const RECORDS: &str = r#"{"copies":2,"records":[
 {"name":"y","start":5,"config":{"votes":[1,2],"read":2,"write":2}}],"sessions":["#;
 
 /// Steps, but those that abort or mark.
-const STEPS: [&str; 11] = [
+const STEPS: [&str; 12] = [
     r#"["read","x"]"#,
     r#"["read","y"]"#,
     r#"["set","x",7]"#,
+    r#"["set","y","a\"b"]"#,
     r#"["add","x",1]"#,
     r#"["add","y",2]"#,
     r#"["sub","x",3]"#,
