@@ -7,14 +7,13 @@ use Rattle.std.proofs.lemmas.List.Elements.{filter-append}
 use Rattle.std.proofs.lemmas.List.FromFn.{get_or-map-range_with_len, length-map-range_with_len}
 use Rattle.std.proofs.lemmas.List.Sums.{fold-append}
 use Rattle.qc_config.specs.Tuple.{after}
-use Rattle.qc_config.specs.declared.tuple.Op.{Op}
-use Rattle.qc_config.specs.declared.tuple.Op.TheVariants.{Get, PutData, PutConfig}
 use Rattle.qc_config.specs.declared.tuple.Tuple.{Tuple}
 use Rattle.qc_event.specs.declared.event.Grant.{Grant}
 use Rattle.qc_event.specs.Base.{no_tuple}
 use Rattle.qc_event.specs.Clear.{is_get}
 use Rattle.qc_event.specs.History.{Name}
 use Rattle.qc_event.specs.Seen.{changed_by}
+use Rattle.qc_moss.proofs.Answering.{after_read}
 use Rattle.qc_desk.specs.Held.{changed_row, changed_tuple, from_row, is_of}
 
 module _ (keep : Name → Bool) (records : ℕ) (start : ℕ → Tuple) where
@@ -55,13 +54,8 @@ module _ (keep : Name → Bool) (records : ℕ) (start : ℕ → Tuple) where
         let below : i < records = subst (λ n. i < n) (row_length (gs ++ g ∷ [])) within in
         row_at (gs ++ g ∷ []) i no_tuple below ∙ each i (is_of keep i g) refl ∙ sym (row_at gs i no_tuple below))
       where
-        nothing : (t : Tuple) (o : Op) → is_get o ≡ true → after t o ≡ t
-        nothing t Get is = refl
-        nothing t (PutData version value) is = absurd cc
-        nothing t (PutConfig generation config) is = absurd cc
-
         each : (i : ℕ) (b : Bool) → is_of keep i g ≡ b → changed_tuple keep i (start i) (gs ++ g ∷ []) ≡ changed_tuple keep i (start i) gs
-        each i true is = next_by i gs g is ∙ nothing (changed_tuple keep i (start i) gs) g.op reads
+        each i true is = next_by i gs g is ∙ after_read (changed_tuple keep i (start i) gs) g.op reads
         each i false is = same_by i gs g is
 
     -- nor does one of no record

@@ -224,7 +224,7 @@ both_effects t a b = by_case a.put b.put a.change b.change
     by_case (Some p) (Some q) (Some c) None = refl
     by_case (Some p) (Some q) (Some c) (Some d) = refl
 
-after_read : (t : Tuple) (op : Op) → is_get op ≡ true → after t op ≡ t
+pub after_read : (t : Tuple) (op : Op) → is_get op ≡ true → after t op ≡ t
 after_read t Get gets = refl
 after_read t (PutData version value) gets = absurd (true≢false (sym gets))
 after_read t (PutConfig generation config) gets = absurd (true≢false (sym gets))
